@@ -1,0 +1,1 @@
+// Audit: are the tables sound? It only reads.

@@ -1,0 +1,1 @@
+// Clear: the tables of an empty index.

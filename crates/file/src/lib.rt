@@ -1,0 +1,1 @@
+// File: a block with its signature into the tables.

@@ -1,0 +1,1 @@
+// Demand 3: every list of calls. No code stands in this crate.

@@ -1,0 +1,4 @@
+pub mod Bits
+pub mod Pigeon
+pub mod Stores
+pub mod Members

@@ -1,0 +1,17 @@
+pub mod Basics
+pub mod Limits
+pub mod Signature
+pub mod Tree
+pub mod Build
+pub mod Tables
+pub mod Sound
+pub mod Stores
+pub mod Clear
+pub mod File
+pub mod Withdraw
+pub mod Rebuild
+pub mod Questions
+pub mod Ledger
+pub mod Promises
+pub mod Lists
+pub mod Claim

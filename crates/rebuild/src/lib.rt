@@ -1,0 +1,1 @@
+// Rebuild: the tree made anew.

@@ -1,0 +1,1 @@
+// Search: the list of the blocks that match a query, and its counts.

@@ -1,0 +1,1 @@
+// Withdraw: a block out of the tables.

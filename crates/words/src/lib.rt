@@ -1,0 +1,1 @@
+// Words: the splitter and the signer.
