@@ -15,3 +15,4 @@ pub mod Ledger
 pub mod Promises
 pub mod Lists
 pub mod Claim
+pub mod Lines
