@@ -1,1 +1,37 @@
-// Clear: the tables of an empty index.
+// Clear: the tables of an empty index, for signatures of a width.
+mod chain;
+mod question;
+mod zeros;
+
+ghost use Prim.Native.Nat.{_*_, _+_, _≤_};
+ghost use mathlib.Core.Path.{_≡_};
+ghost use lib.ListN.{length};
+ghost use Rattle.model.specs.Tables.{linksOf};
+ghost use Rattle.model.specs.Clear.{clearLinks};
+ghost use Rattle.model.specs.Promises.{ClearPromise};
+
+// The links of cleared tables: all words 0 but words 0, 1 and 3 and the chain of free nodes.
+fn clear_links(links: &mut [u32], blocks: usize, width: u32)
+    requires { ⌜ (1 ≤ blocks) × (blocks ≤ 65535) × (length (now links) ≡ linksOf blocks) ⌝ }
+    ensures { λ _. ⌜ now (links .exit) ≡ clearLinks blocks width ⌝ }
+{
+    let first = chain::first_free(blocks);
+    zeros::zero_links(links);
+    chain::chain_nodes(links, blocks);
+    links[0] = width;
+    links[1] = blocks as u32;
+    links[3] = first;
+}
+
+// Clears the tables, whatever they were.
+pub fn clear(signatures: &mut [u64], links: &mut [u32], width: u32) -> u32
+    ensures { λ r. ⌜ ClearPromise (now (signatures .entry)) (now (links .entry)) width r (now (signatures .exit)) (now (links .exit)) ⌝ }
+{
+    let blocks = signatures.len();
+    if !question::may_clear(blocks, links.len(), width) {
+        return question::UNFIT;
+    }
+    zeros::zero_signatures(signatures);
+    clear_links(links, blocks, width);
+    0
+}

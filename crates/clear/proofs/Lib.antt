@@ -1,0 +1,3 @@
+pub mod Filling
+pub mod Promised
+pub mod Cleared
