@@ -2,4 +2,11 @@ pub mod Bits
 pub mod Pigeon
 pub mod Stores
 pub mod Members
+pub mod Keep
+pub mod Trees
+pub mod Paths
+pub mod Compared
+pub mod Reached
+pub mod Powers
+pub mod Build
 pub mod Marked
