@@ -14,15 +14,15 @@ use Rattle.model.proofs.Pigeon.{Distinct, distinct-fits, distinct-append, downF
 use Rattle.tables.proofs.Shapes.{blocks-range, blocks-placed, blocks-apart}
 
 -- the head blocks of the leaves
-abbrev heads : Shape → List ℕ
+abbrev pub heads : Shape → List ℕ
 heads (tip h cs) = h ∷ []
 heads (fork i p l k) = heads l ++ heads k
 
-heads-count : (t : Shape) → length (heads t) ≡ suc (length (nodes t))
+pub heads-count : (t : Shape) → length (heads t) ≡ suc (length (nodes t))
 heads-count (tip h cs) = refl
 heads-count (fork i p l k) = omega (arith, length-append (heads l) (heads k), length-append (nodes l) (nodes k), heads-count l, heads-count k)
 
-heads-blocks : (t : Shape) (c : ℕ) → List·Memᴰ c (heads t) → List·Memᴰ c (blocks t)
+pub heads-blocks : (t : Shape) (c : ℕ) → List·Memᴰ c (heads t) → List·Memᴰ c (blocks t)
 heads-blocks (tip h cs) c m = go (List·Memᴰ·cases-cons m)
   where
     go : (c ≡ h) ⊎ List·Memᴰ c [] → List·Memᴰ c (h ∷ cs)
@@ -35,7 +35,7 @@ heads-blocks (fork i p l k) c m = go (List·Memᴰ·append-cases (heads l) m) (h
     go (inr n) f g = Memᴰ·append-right (blocks l) (g n)
 
 module _ (B F : ℕ) (sigs L : List ℕ) where
-  heads-distinct : (path : List Edge) (t : Shape) → Placed F sigs L path t → Distinct (heads t)
+  pub heads-distinct : (path : List Edge) (t : Shape) → Placed F sigs L path t → Distinct (heads t)
   heads-distinct path (tip h cs) q = (List·Memᴰ·not-nil, tt)
   heads-distinct path (fork i p l k) q =
       distinct-append (heads l) (heads k) (heads-distinct (edge p 0 ∷ path) l (q .3)) (heads-distinct (edge p 1 ∷ path) k (q .4))
@@ -86,7 +86,7 @@ module _ (B : ℕ) (L : List ℕ) where
       go (inl e) ih = let a = q .1 in let b = q .2 in omega arith
       go (inr n) ih = ih n
 
-  free-one : (r : ℕ) (is js : List ℕ) → FreeChain B L r is → FreeChain B L r js → is ≡ js
+  pub free-one : (r : ℕ) (is js : List ℕ) → FreeChain B L r is → FreeChain B L r js → is ≡ js
   free-one r [] [] q q′ = refl
   free-one r [] (j ∷ js) q q′ = let a = q′ .0 in let b = q′ .1 in absurd (omega arith)
   free-one r (i ∷ is) [] q q′ = let a = q .0 in let b = q .1 in absurd (omega arith)

@@ -2,3 +2,8 @@ pub mod Shapes
 pub mod Counts
 pub mod Trees
 pub mod Facts
+pub mod Sides
+pub mod Steps
+pub mod Ways
+pub mod Links
+pub mod Graft

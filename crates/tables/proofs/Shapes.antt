@@ -18,6 +18,11 @@ module _ (B : ℕ) (L L′ : List ℕ) where
   chain-same h [] n k = n h (List·Memᴰ·head refl) ∙ k
   chain-same h (c ∷ cs) n k = (n h (List·Memᴰ·head refl) ∙ k .0, k .1, k .2, chain-same c cs (λ d m. n d (List·Memᴰ·tail m)) (k .3))
 
+  -- a chain with another block at its start
+  pub chain-move : (h b : ℕ) (cs : List ℕ) → word L′ (nextAt b) ≡ word L (nextAt h) → ((c : ℕ) → List·Memᴰ c cs → word L′ (nextAt c) ≡ word L (nextAt c)) → Chain B L h cs → Chain B L′ b cs
+  chain-move h b [] e n q = e ∙ q
+  chain-move h b (c ∷ cs) e n q = (e ∙ q .0, q .1, q .2, chain-same c cs n (q .3))
+
   pub holds-same : (t : Shape) (r r′ : ℕ) → r′ ≡ r
       → ((c : ℕ) → List·Memᴰ c (blocks t) → word L′ (nextAt c) ≡ word L (nextAt c))
       → ((i : ℕ) → List·Memᴰ i (nodes t) → (word L′ (positionAt B i) ≡ word L (positionAt B i)) × (word L′ (leftAt B i) ≡ word L (leftAt B i)) × (word L′ (rightAt B i) ≡ word L (rightAt B i)))
@@ -81,7 +86,7 @@ module _ (B : ℕ) (L : List ℕ) where
       go (inr n) f g = go₂ (List·Memᴰ·append-cases (nodes l) n) f g
 
   -- one chain, one shape to a reference
-  chain-one : (h : ℕ) (cs ds : List ℕ) → Chain B L h cs → Chain B L h ds → cs ≡ ds
+  pub chain-one : (h : ℕ) (cs ds : List ℕ) → Chain B L h cs → Chain B L h ds → cs ≡ ds
   chain-one h [] [] q q′ = refl
   chain-one h [] (d ∷ ds) q q′ = let e = q′ .0 in let g = q′ .1 in absurd (omega arith)
   chain-one h (c ∷ cs) [] q q′ = let e = q .0 in let g = q .1 in absurd (omega arith)

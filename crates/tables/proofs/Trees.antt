@@ -1,23 +1,17 @@
--- The way that a signature's bits take through a shape, and the shape with another one in the place of the leaf that it reaches.
+-- The plain tree of a shape: the tables' tree function gives it wherever the links spell the shape, since the walk down follows the
+-- shape's own recursion. A placed shape is at most F deep: the positions on a path are distinct numbers of 1 to F.
 -- Assumes nothing.
-use Prim.Native.Nat.{ℕ, zero, suc, _+_, _-_, _*_, _≤_, _<_, max}
-use native.Mathlib.Nat.{add-sub-cancel-left}
+use Prim.Native.Nat.{ℕ, zero, suc, _+_, _-_, _≤_, max}
 use native.Mathlib.Omega.{arith}
-use mathlib.Core.Path.{_≡_, refl, sym, _∙_, ap, ap₂, subst}
+use mathlib.Core.Path.{_≡_, refl, sym, _∙_, ap, ap₂}
 use mathlib.Core.Logic.{_⊎_, inl, inr, _≢_}
-use mathlib.Core.Bool.{Bool, true, false}
-use mathlib.Core.List.{List, [], _∷_, _++_, List·Memᴰ, List·Memᴰ·head, List·Memᴰ·tail, List·Memᴰ·cases-cons, List·Memᴰ·not-nil, List·Memᴰ·append-cases, Memᴰ·append-left, Memᴰ·append-right, Memᴰ·cast}
-use lib.Dec.{eqb, leb}
+use mathlib.Core.List.{List, [], _∷_, List·Memᴰ, List·Memᴰ·head, List·Memᴰ·cases-cons, List·Memᴰ·not-nil, Memᴰ·append-left, Memᴰ·append-right}
 use lib.ListN.{length}
 use borrow.Author.Tests.{ne-eqb, le-leb, lt-leb}
-use Rattle.model.specs.Signature.{bitAt}
-use Rattle.model.specs.Tree.{goesLeft, Tree, nothing, leaf, node, insert, Edge, edge, Untested, Agrees}
-use Rattle.model.specs.Tables.{word, nextAt, filedAt, positionAt, leftAt, rightAt, signatureOf, treeFrom}
-use Rattle.model.specs.Sound.{Shape, tip, fork, Chain, Holds, nodes, blocks, Placed}
-use Rattle.model.specs.File.{spotFrom}
-use Rattle.model.proofs.Bits.{bit-cases}
+use Rattle.model.specs.Tree.{Tree, nothing, leaf, node, Edge, edge, Untested}
+use Rattle.model.specs.Tables.{word, leftAt, rightAt, signatureOf, treeFrom}
+use Rattle.model.specs.Sound.{Shape, tip, fork, Rooted, none, some, Holds, HoldsRoot, blocks, Placed, PlacedRoot, SoundAt}
 use Rattle.model.proofs.Pigeon.{Distinct, distinct-fits, downFrom, downFrom-length, downFrom-has}
-use Rattle.tables.proofs.Shapes.{holds-same, placed-same, blocks-placed, blocks-apart, nodes-apart, not-below}
 
 -- the longest path's nodes
 abbrev pub depth : Shape → ℕ
@@ -29,19 +23,19 @@ abbrev pub treeShape : List ℕ → Shape → Tree
 treeShape sigs (tip h cs) = leaf (signatureOf sigs h)
 treeShape sigs (fork i p l k) = node p (treeShape sigs l) (treeShape sigs k)
 
-pub plainAt-shape : (B : ℕ) (sigs L : List ℕ) (t : Shape) (n r : ℕ) → Holds B L r t → depth t ≤ n → treeFrom B sigs L n r ≡ treeShape sigs t
+pub treeFrom-shape : (B : ℕ) (sigs L : List ℕ) (t : Shape) (n r : ℕ) → Holds B L r t → depth t ≤ n → treeFrom B sigs L n r ≡ treeShape sigs t
 unfolding treeFrom
-plainAt-shape B sigs L (tip h cs) zero r q d =
+treeFrom-shape B sigs L (tip h cs) zero r q d =
     let a = q .0 in
     let b = q .1 in
     rw (ne-eqb r 0 (omega arith), treeFrom, q .0)
-plainAt-shape B sigs L (tip h cs) (suc n) r q d =
+treeFrom-shape B sigs L (tip h cs) (suc n) r q d =
     let a = q .0 in
     let b = q .1 in
     let c = q .2 in
     rw (ne-eqb r 0 (omega arith), treeFrom, le-leb r B (omega arith), q .0)
-plainAt-shape B sigs L (fork i p l k) zero r q d = absurd (omega arith)
-plainAt-shape B sigs L (fork i p l k) (suc n) r q d =
+treeFrom-shape B sigs L (fork i p l k) zero r q d = absurd (omega arith)
+treeFrom-shape B sigs L (fork i p l k) (suc n) r q d =
     let a = q .0 in
     let b = q .1 in
     let e : r - B ≡ i = omega arith in
@@ -51,19 +45,19 @@ plainAt-shape B sigs L (fork i p l k) (suc n) r q d =
       lt-leb r B (omega arith),
       e,
       q .3,
-      plainAt-shape B sigs L l n (word L (leftAt B i)) (q .4) (omega arith),
-      plainAt-shape B sigs L k n (word L (rightAt B i)) (q .5) (omega arith),
+      treeFrom-shape B sigs L l n (word L (leftAt B i)) (q .4) (omega arith),
+      treeFrom-shape B sigs L k n (word L (rightAt B i)) (q .5) (omega arith),
     )
 
-pub plainAt-none : (B : ℕ) (sigs L : List ℕ) (n r : ℕ) → r ≡ 0 → treeFrom B sigs L n r ≡ nothing
+pub treeFrom-none : (B : ℕ) (sigs L : List ℕ) (n r : ℕ) → r ≡ 0 → treeFrom B sigs L n r ≡ nothing
 unfolding treeFrom
-plainAt-none B sigs L zero r e = rw e
-plainAt-none B sigs L (suc n) r e = rw e
+treeFrom-none B sigs L zero r e = rw e
+treeFrom-none B sigs L (suc n) r e = rw e
 
-pub plain-same : (sigs sigs′ : List ℕ) (t : Shape) → ((c : ℕ) → List·Memᴰ c (blocks t) → signatureOf sigs′ c ≡ signatureOf sigs c) → treeShape sigs′ t ≡ treeShape sigs t
-plain-same sigs sigs′ (tip h cs) o = ap leaf (o h (List·Memᴰ·head refl))
-plain-same sigs sigs′ (fork i p l k) o =
-    ap₂ (node p) (plain-same sigs sigs′ l (λ c m. o c (Memᴰ·append-left (blocks k) m))) (plain-same sigs sigs′ k (λ c m. o c (Memᴰ·append-right (blocks l) m)))
+pub tree-same : (sigs sigs′ : List ℕ) (t : Shape) → ((c : ℕ) → List·Memᴰ c (blocks t) → signatureOf sigs′ c ≡ signatureOf sigs c) → treeShape sigs′ t ≡ treeShape sigs t
+tree-same sigs sigs′ (tip h cs) o = ap leaf (o h (List·Memᴰ·head refl))
+tree-same sigs sigs′ (fork i p l k) o =
+    ap₂ (node p) (tree-same sigs sigs′ l (λ c m. o c (Memᴰ·append-left (blocks k) m))) (tree-same sigs sigs′ k (λ c m. o c (Memᴰ·append-right (blocks l) m)))
 
 -- a path has at most F nodes, since its positions are distinct
 abbrev positions : List Edge → List ℕ
@@ -97,3 +91,16 @@ depth-fits F sigs L path (fork i p l k) q d =
 
 pub depth-root : (F : ℕ) (sigs L : List ℕ) (t : Shape) → Placed F sigs L [] t → depth t ≤ F
 depth-root F sigs L t q = omega (arith, depth-fits F sigs L [] t q (tt, λ p m. absurd (List·Memᴰ·not-nil m)))
+
+-- the plain tree of what the root leads to
+abbrev pub treeRooted : List ℕ → Rooted → Tree
+treeRooted sigs none = nothing
+treeRooted sigs (some t) = treeShape sigs t
+
+rooted-tree : (B F : ℕ) (sigs L : List ℕ) (t : Rooted) → HoldsRoot B L (word L 2) t → PlacedRoot F sigs L t → treeFrom B sigs L F (word L 2) ≡ treeRooted sigs t
+rooted-tree B F sigs L none q pl = treeFrom-none B sigs L F (word L 2) q
+rooted-tree B F sigs L (some t) q pl = treeFrom-shape B sigs L t F (word L 2) q (depth-root F sigs L t pl)
+
+-- the plain tree of sound tables is that of their shape
+pub tree-of-sound : {B F : ℕ} {sigs L : List ℕ} (S : SoundAt B F sigs L) → treeFrom B sigs L F (word L 2) ≡ treeRooted sigs (S .tree)
+tree-of-sound {B} {F} {sigs} {L} S = rooted-tree B F sigs L (S .tree) (S .holds) (S .placed)
