@@ -54,19 +54,30 @@ module _ (B F : ℕ) (sigs L : List ℕ) where
       inB c (inl e) = downFrom-has B c (omega arith) (omega arith)
       inB c (inr m) = let g = blocks-range B L t r q c (heads-blocks t c m) in downFrom-has B c (g .0) (g .1)
 
--- the count of filed blocks, where one block's filed word goes from 0 to 1
-module _ (L L′ : List ℕ) (b : ℕ) (one : word L′ (filedAt b) ≡ word L (filedAt b) + 1) where
+-- the count of filed blocks, where one block's filed word changes
+module _ (L L′ : List ℕ) (b : ℕ) where
   filed-before : (n : ℕ) → n < b → ((c : ℕ) → c ≢ b → 1 ≤ c → c ≤ n → word L′ (filedAt c) ≡ word L (filedAt c)) → filedUpTo L′ n ≡ filedUpTo L n
   filed-before zero h o = refl
   filed-before (suc n) h o = omega (arith, o (suc n) (omega arith) (omega arith) (omega arith), filed-before n (omega arith) (λ c x y z. o c x y (omega arith)))
 
-  pub filed-more : (n : ℕ) → 1 ≤ b → b ≤ n → ((c : ℕ) → c ≢ b → 1 ≤ c → c ≤ n → word L′ (filedAt c) ≡ word L (filedAt c)) → filedUpTo L′ n ≡ filedUpTo L n + 1
-  filed-more zero h h′ o = absurd (omega arith)
-  filed-more (suc n) h h′ o = go (ℕ-discrete b (suc n)) (λ k. filed-more n h k (λ c x y z. o c x y (omega arith)))
+  pub filed-changed : (n : ℕ) → 1 ≤ b → b ≤ n → ((c : ℕ) → c ≢ b → 1 ≤ c → c ≤ n → word L′ (filedAt c) ≡ word L (filedAt c))
+      → filedUpTo L′ n + word L (filedAt b) ≡ filedUpTo L n + word L′ (filedAt b)
+  filed-changed zero h h′ o = absurd (omega arith)
+  filed-changed (suc n) h h′ o = go (ℕ-discrete b (suc n)) (λ k. filed-changed n h k (λ c x y z. o c x y (omega arith)))
     where
-      go : Dec (b ≡ suc n) → (b ≤ n → filedUpTo L′ n ≡ filedUpTo L n + 1) → filedUpTo L′ (suc n) ≡ filedUpTo L (suc n) + 1
-      go (yes e) ih = omega (arith, subst (λ (x : ℕ). word L′ (filedAt x) ≡ word L (filedAt x) + 1) e one, filed-before n (omega arith) (λ c x y z. o c x y (omega arith)))
+      go : Dec (b ≡ suc n) → (b ≤ n → filedUpTo L′ n + word L (filedAt b) ≡ filedUpTo L n + word L′ (filedAt b)) → filedUpTo L′ (suc n) + word L (filedAt b) ≡ filedUpTo L (suc n) + word L′ (filedAt b)
+      go (yes e) ih =
+          omega (arith, ap (λ (x : ℕ). word L (filedAt x)) e, ap (λ (x : ℕ). word L′ (filedAt x)) e, filed-before n (omega arith) (λ c x y z. o c x y (omega arith)))
       go (no d) ih = omega (arith, o (suc n) (λ e. d (sym e)) (omega arith) (omega arith), ih (omega arith))
+
+-- a filed block is counted
+pub filed-one : (L : List ℕ) (b n : ℕ) → 1 ≤ b → b ≤ n → word L (filedAt b) ≤ filedUpTo L n
+filed-one L b zero h h′ = absurd (omega arith)
+filed-one L b (suc n) h h′ = go (ℕ-discrete b (suc n)) (filed-one L b n h)
+  where
+    go : Dec (b ≡ suc n) → (b ≤ n → word L (filedAt b) ≤ filedUpTo L n) → word L (filedAt b) ≤ filedUpTo L (suc n)
+    go (yes e) ih = omega (arith, ap (λ (x : ℕ). word L (filedAt x)) e)
+    go (no d) ih = omega (arith, ih (omega arith))
 
 -- the free chain
 pub free-same : (B : ℕ) (L L′ : List ℕ) (r r′ : ℕ) (is : List ℕ) → r′ ≡ r

@@ -128,7 +128,7 @@ module _ {F s : ℕ} {v : Shape} where
   part-gone B sigs L path r (here e) u q pl j m n y = n y
   part-gone B sigs L path r (down {i = i} {p = p} {x = x} e o z w) u q pl j m n y =
       let e1 = edge-small F s p z in
-      go (List·Memᴰ·cases-cons y) (λ k. part-gone B sigs L (edge p e ∷ path) (sideOf B L i e) w u (sides-held B L e i p x o r e1 q .0) (sides-placed B L F sigs path e i p x o e1 pl .0) j m n k)
+      go (List·Memᴰ·cases-cons {l = nodes (pick e (replace w u) o) ++ nodes (pick e o (replace w u))} y) (λ k. part-gone B sigs L (edge p e ∷ path) (sideOf B L i e) w u (sides-held B L e i p x o r e1 q .0) (sides-placed B L F sigs path e i p x o e1 pl .0) j m n k)
     where
       late : List·Memᴰ j (nodes (replace w u)) ⊎ List·Memᴰ j (nodes o) → (List·Memᴰ j (nodes (replace w u)) → ⊥) → ⊥
       late (inl k) ih = ih k

@@ -7,3 +7,4 @@ pub mod Steps
 pub mod Ways
 pub mod Links
 pub mod Graft
+pub mod After
