@@ -8,3 +8,4 @@ pub mod Ways
 pub mod Links
 pub mod Graft
 pub mod After
+pub mod Walks
