@@ -1,0 +1,236 @@
+-- `split::build` meets its contract: it calls itself on each half of the group, whose nodes follow its own. The measure is the
+-- group's length.
+-- Assumes nothing.
+use Prim.Native.Nat.{ℕ, _≤_, _<_}
+use native.Mathlib.Omega.{arith}
+use mathlib.Core.Path.{_≡_, sym, _∙_}
+use lib.ListN.{length}
+use Rattle.split.proofs.Halves.{Known, some, after-length, low-length, left-asks, right-asks, whole-length, rest, back-length, finish, few}
+use borrow.Author.Needs.{needs}
+use borrow.Fn.Kinds.{In, Out}
+use borrow.Fn.PlainCycle.{Measures, is, falls, and}
+use Rattle.split.proofs.build.Reads as build
+use Rattle.split.proofs.build.Kinds as build-kinds
+use Rattle.split.proofs.+build.Lts-build as build-lts
+use Rattle.split.proofs.reference.Reads as reference-reads
+use Rattle.split.proofs.split.Reads as split-reads
+use Rattle.split.proofs.write_node.Reads as write-node-reads
+use Rattle.split.proofs.+build.{statement}
+use Rattle.split.proofs.+build.Tie.{close}
+
+abbrev μ-build : Measures 3 build-kinds.ps ℕ
+μ-build κs a = length (a .1 .1 .0 .now)
+
+abbrev build-at : ℕ → In 3 build-kinds.ps
+build-at t = and 3 build-kinds.ps (is 3 build-kinds.ps μ-build t) build.Pre
+
+abbrev build-below : ℕ → In 3 build-kinds.ps
+build-below t = and 3 build-kinds.ps (falls 3 build-kinds.ps _<_ μ-build t) build.Pre
+
+-- what the calls ask and give where the measure is t
+abbrev calls : ℕ → build-lts.Claims
+calls t = (split-reads.Asked, split-reads.Learnt, reference-reads.Asked, reference-reads.Learnt, write-node-reads.Asked, write-node-reads.Learnt, build-below t, build.Post)
+
+-- a need at each measure
+abbrev At : (build-lts.Claims → In 3 build-lts.ps → Out 3 build-lts.ps build-lts.r → Type 0) → Type 0
+At need = (t : ℕ) → need (calls t) (build-at t) build.Post
+
+-- the place after the split, and the arguments there
+abbrev Place : ℕ → Type 0
+Place t = build-lts.After-slice-known4 (calls t) (build-at t) build.Post
+
+abbrev start : (t : ℕ) → Place t → build-lts.Start (calls t) (build-at t) build.Post
+start t c = c .before .before .before .before .before .before .before .before .before
+
+known : (t : ℕ) (c : Place t)
+    → Known (start t c .args .width) (start t c .args .signatures .now) (start t c .args .group .now) (c .before .before .before .split .last .1 .0) (start t c .args .links .now)
+    (c .before .before .before .split .result .position) (c .before .before .before .split .result .low) (start t c .args .first) t
+known t c =
+    let s = start t c in
+    record {
+      measure = s .pre .0;
+      group = s .pre .1 .0;
+      small = s .pre .1 .1 .0 .0;
+      room = s .pre .1 .1 .0 .1;
+      node = s .pre .1 .1 .1;
+      halved = c .before .before .before .split .ensures;
+      many = c .before .before .before .before .before .if1 .left;
+    }
+
+returns : At build-lts.Need-returns
+returns t c = few _ _ _ _ _ (c .before .before .before .before .pre .1 .0) (c .if1 .taken)
+
+split-requires : At build-lts.Need-split-requires
+split-requires t c κs = let g = c .before .before .before .before .before .pre .1 .0 in (g .blocks, (g .from, g .to))
+
+slice-read-reference : At build-lts.Need-slice-read-reference
+slice-read-reference t c =
+    let K = known t c in
+    let n = after-length _ _ _ _ _ _ _ _ _ K in
+    let q = some _ _ _ _ _ _ _ _ _ K in
+    omega (arith, K .small, K .node)
+
+add-reference : At build-lts.Need-add-reference
+add-reference t c =
+    let K = known t c in
+    let n = after-length _ _ _ _ _ _ _ _ _ K in
+    let q = some _ _ _ _ _ _ _ _ _ K in
+    omega (arith, K .small, K .node)
+
+add-reference-2 : At build-lts.Need-add-reference-2
+add-reference-2 t c =
+    let K = known t c in
+    let n = after-length _ _ _ _ _ _ _ _ _ K in
+    let q = some _ _ _ _ _ _ _ _ _ K in
+    omega (arith, K .small, K .node)
+
+reference-requires : At build-lts.Need-reference-requires
+reference-requires t c κs =
+    let K = known t c in
+    let n = after-length _ _ _ _ _ _ _ _ _ K in
+    let q = some _ _ _ _ _ _ _ _ _ K in
+    omega (arith, K .small, K .node)
+
+sub-reference : At build-lts.Need-sub-reference
+sub-reference t c =
+    let K = known t (c .before) in
+    let n = after-length _ _ _ _ _ _ _ _ _ K in
+    let q = some _ _ _ _ _ _ _ _ _ K in
+    omega (arith, K .small, K .node)
+
+mul-reference : At build-lts.Need-mul-reference
+mul-reference t c =
+    let K = known t (c .before) in
+    let n = after-length _ _ _ _ _ _ _ _ _ K in
+    let q = some _ _ _ _ _ _ _ _ _ K in
+    omega (arith, K .small, K .node)
+
+slice-read-reference-2 : At build-lts.Need-slice-read-reference-2
+slice-read-reference-2 t c =
+    let K = known t (c .before .before) in
+    let n = after-length _ _ _ _ _ _ _ _ _ K in
+    let q = some _ _ _ _ _ _ _ _ _ K in
+    omega (arith, K .small, K .node)
+
+add-reference-3 : At build-lts.Need-add-reference-3
+add-reference-3 t c =
+    let K = known t (c .before .before) in
+    let n = after-length _ _ _ _ _ _ _ _ _ K in
+    let q = some _ _ _ _ _ _ _ _ _ K in
+    omega (arith, K .small, K .node)
+
+add-reference-4 : At build-lts.Need-add-reference-4
+add-reference-4 t c =
+    let K = known t (c .before .before) in
+    let n = after-length _ _ _ _ _ _ _ _ _ K in
+    let q = some _ _ _ _ _ _ _ _ _ K in
+    omega (arith, K .small, K .node)
+
+reference-requires-2 : At build-lts.Need-reference-requires-2
+reference-requires-2 t c κs =
+    let K = known t (c .before .before) in
+    let n = after-length _ _ _ _ _ _ _ _ _ K in
+    let q = some _ _ _ _ _ _ _ _ _ K in
+    omega (arith, K .small, K .node)
+
+write-node-requires : At build-lts.Need-write-node-requires
+write-node-requires t c κs =
+    let K = known t (c .before .before .before .before) in
+    let q = some _ _ _ _ _ _ _ _ _ K in
+    (K .small, (omega (arith, K .node), K .room))
+
+slice-relend-prefix-build : At build-lts.Need-slice-relend-prefix-build
+slice-relend-prefix-build t c = known t (c .before .before .before .before .before .before .before .before) .halved .fits
+
+slice-aggregate-build : At build-lts.Need-slice-aggregate-build
+slice-aggregate-build t c = sym (low-length _ _ _ _ _ _ _ _ _ (known t (c .before .before .before .before .before .before .before .before .before)))
+
+add-build : At build-lts.Need-add-build
+add-build t c =
+    let K = known t (c .before .before .before .before .before .before .before .before .before) in
+    let n = after-length _ _ _ _ _ _ _ _ _ K in
+    let q = some _ _ _ _ _ _ _ _ _ K in
+    omega (arith, K .small, K .node)
+
+build-requires : At build-lts.Need-build-requires
+build-requires t c κs = left-asks _ _ _ _ _ _ _ _ _ (known t (c .before .before .before .before .before .before .before .before .before)) (c .before .before .before .before .write-node .last .0) (c .before .before .before .before .write-node .kept .0)
+
+mul-build : At build-lts.Need-mul-build
+mul-build t c =
+    let K = known t (c .before .before .before .before .before .before .before .before .before .before .before .before .before .before .before) in
+    let n = after-length _ _ _ _ _ _ _ _ _ K in
+    let q = some _ _ _ _ _ _ _ _ _ K in
+    omega (arith, K .small, K .node)
+
+sub-build : At build-lts.Need-sub-build
+sub-build t c =
+    let K = known t (c .before .before .before .before .before .before .before .before .before .before .before .before .before .before .before) in
+    let n = whole-length _ _ _ _ _ _ _ _ _ K (c .before .before .before .before .before .build .last .1 .1 .0) (c .before .before .before .before .before .build .kept .1 .1 .0) in
+    let q = some _ _ _ _ _ _ _ _ _ K in
+    omega arith
+
+part-build-start : At build-lts.Need-part-build-start
+part-build-start t c =
+    let K = known t (c .before .before .before .before .before .before .before .before .before .before .before .before .before .before .before) in
+    let n = whole-length _ _ _ _ _ _ _ _ _ K (c .before .before .before .before .before .build .last .1 .1 .0) (c .before .before .before .before .before .build .kept .1 .1 .0) in
+    let q = some _ _ _ _ _ _ _ _ _ K in
+    omega arith
+
+part-build-end : At build-lts.Need-part-build-end
+part-build-end t c = omega arith
+
+add-build-2 : At build-lts.Need-add-build-2
+add-build-2 t c =
+    let K = known t (c .before .before .before .before .before .before .before .before .before .before .before .before .before .before .before .before) in
+    let n = after-length _ _ _ _ _ _ _ _ _ K in
+    let q = some _ _ _ _ _ _ _ _ _ K in
+    omega (arith, K .small, K .node)
+
+build-requires-2 : At build-lts.Need-build-requires-2
+build-requires-2 t c κs =
+    right-asks _ _ _ _ _ _ _ _ _ (known t (c .before .before .before .before .before .before .before .before .before .before .before .before .before .before .before .before)) (c .before .before .before .before .before .before .build .last .1 .1 .0) (c .before .before .before .before .before .before .build .kept .1 .1 .0) (c .before .before .before .before .before .before .build .last .1 .0) (c .before .before .before .before .before .before .build .kept .1 .0 ∙ c .before .before .before .before .before .before .before .before .before .before .before .write-node .kept .0)
+
+same-length : At build-lts.Need-same-length
+same-length t c = c .before .before .before .before .build2 .kept .1 .0 ∙ c .before .before .before .before .before .before .before .before .before .before .before .build .kept .1 .0 ∙ c .before .before .before .before .before .before .before .before .before .before .before .before .before .before .before .before .write-node .kept .0
+
+same-length-2 : At build-lts.Need-same-length-2
+same-length-2 t c =
+    back-length _ _ _ _ _ _ _ _ _ (known t (c .before .before .before .before .before .before .before .before .before .before .before .before .before .before .before .before .before .before .before .before .before)) (c .before .before .before .before .before .before .before .before .before .before .before .build .last .1 .1 .0) (c .before .before .before .before .before .before .before .before .before .before .before .build .kept .1 .1 .0) (c .before .before .before .before .build2 .last .1 .1 .0) (c .before .before .before .before .build2 .kept .1 .1 .0)
+
+returns-2 : At build-lts.Need-returns-2
+returns-2 t c =
+    let K = known t (c .before .before .before .before .before .before .before .before .before .before .before .before .before .before .before .before .before .before .before .before .before) in
+    let one = c .before .before .before .before .before .before .before .before .before .before .before .build in
+    let two = c .before .before .before .before .build2 in
+    let e = rest _ _ _ _ _ _ _ _ _ K (one .last .1 .1 .0) (one .kept .1 .1 .0) in
+    finish _ _ _ _ _ _ _ _ _ K (c .before .before .before .before .before .before .before .before .before .before .before .before .before .before .before .before .before .before .before .before .reference .result) (c .before .before .before .before .before .before .before .before .before .before .before .before .before .before .before .before .before .before .reference2 .result) (c .before .before .before .before .before .before .before .before .before .before .before .before .before .before .before .before .write-node .last .0) (one .last .1 .0) (two .last .1 .0)
+    (c .before .before .before .before .before .before .before .before .before .before .before .before .before .before .before .before .before .before .before .before .reference .ensures) (c .before .before .before .before .before .before .before .before .before .before .before .before .before .before .before .before .before .before .reference2 .ensures) (c .before .before .before .before .before .before .before .before .before .before .before .before .before .before .before .before .write-node .ensures) (one .ensures) (rw e at (two .ensures))
+
+pub +build-spec : {M : Type 1} → statement M
++build-spec = close μ-build λ t. build-lts.spec (calls t) (build-at t) build.Post
+    (returns t)
+    (split-requires t)
+    (slice-read-reference t)
+    (add-reference t)
+    (add-reference-2 t)
+    (reference-requires t)
+    (sub-reference t)
+    (mul-reference t)
+    (slice-read-reference-2 t)
+    (add-reference-3 t)
+    (add-reference-4 t)
+    (reference-requires-2 t)
+    (write-node-requires t)
+    (slice-relend-prefix-build t)
+    (slice-aggregate-build t)
+    (add-build t)
+    (build-requires t)
+    (mul-build t)
+    (sub-build t)
+    (part-build-start t)
+    (part-build-end t)
+    (add-build-2 t)
+    (build-requires-2 t)
+    (same-length t)
+    (same-length-2 t)
+    (returns-2 t)

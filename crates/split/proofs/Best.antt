@@ -1,0 +1,158 @@
+-- The best position: it is one of 1 to F, and no position's smaller side is larger. So it splits two or more distinct signatures:
+-- where its smaller side were empty all would be, and two of the signatures would agree at every position.
+-- Assumes nothing.
+use Prim.Native.Nat.{ℕ, zero, suc, _+_, _-_, _≤_, _<_, zero-le}
+use native.Mathlib.Decide.{ℕ-discrete}
+use native.Mathlib.Nat.{eq-or-lt-of-le}
+use native.Mathlib.Omega.{arith}
+use mathlib.Core.Path.{_≡_, refl, sym, _∙_, ap}
+use mathlib.Core.Logic.{_⊎_, inl, inr, ⊎-elim}
+use mathlib.Core.Bool.{Bool, true, false}
+use mathlib.Core.List.{List, [], _∷_}
+use lib.Dec.{ltb, eqb}
+use lib.ListN.{length, getD}
+use borrow.Author.Tests.{ltb-true, ltb-false, lt-ltb, le-ltb, eq-eqb}
+use Rattle.model.specs.Basics.{upFrom, keep}
+use Rattle.model.specs.Signature.{bitAt}
+use Rattle.model.specs.Build.{side, smaller, bestOf, bestPosition}
+use Rattle.model.specs.Tables.{signatureOf}
+use Rattle.model.proofs.Bits.{bit-below}
+use Rattle.model.proofs.Members.{total, Same}
+use Rattle.signature.proofs.Bits.{bits-equal}
+use Rattle.split.specs.Split.{hits, Apart, Below}
+use Rattle.split.proofs.Sides.{sides-total, sides-length, ones-total, smaller-same}
+
+module _ (F : ℕ) (of : ℕ → ℕ) (xs : List ℕ) where
+  -- one position more
+  pub best-yes : (best j : ℕ) (ps : List ℕ) → smaller F of best xs < smaller F of j xs → bestOf F of xs best (j ∷ ps) ≡ bestOf F of xs j ps
+  unfolding bestOf
+  best-yes best j ps h = rw (lt-ltb (smaller F of best xs) (smaller F of j xs) h, bestOf)
+
+  pub best-no : (best j : ℕ) (ps : List ℕ) → smaller F of j xs ≤ smaller F of best xs → bestOf F of xs best (j ∷ ps) ≡ bestOf F of xs best ps
+  unfolding bestOf
+  best-no best j ps h = rw (le-ltb (smaller F of best xs) (smaller F of j xs) h, bestOf)
+
+  -- the better of two goes on
+  better : (P : ℕ → Type 0) (best j : ℕ) (ps : List ℕ) → (smaller F of best xs < smaller F of j xs → P (bestOf F of xs j ps)) → (smaller F of j xs ≤ smaller F of best xs → P (bestOf F of xs best ps)) → P (bestOf F of xs best (j ∷ ps))
+  better P best j ps f g = go (ltb (smaller F of best xs) (smaller F of j xs)) refl
+    where
+      go : (t : Bool) → ltb (smaller F of best xs) (smaller F of j xs) ≡ t → P (bestOf F of xs best (j ∷ ps))
+      go true e = let h = ltb-true (smaller F of best xs) (smaller F of j xs) e in rw (best-yes best j ps h) (f h)
+      go false e = let h = ltb-false (smaller F of best xs) (smaller F of j xs) e in rw (best-no best j ps (omega arith)) (g (omega arith))
+
+  abbrev Largest : ℕ → ℕ → ℕ → ℕ → Type 0
+  Largest best n j q = (smaller F of best xs ≤ smaller F of q xs) × ((i : ℕ) → j ≤ i → i < j + n → smaller F of i xs ≤ smaller F of q xs)
+
+  later : (best n j q : ℕ) → smaller F of best xs ≤ smaller F of q xs → smaller F of j xs ≤ smaller F of q xs → Largest best n (suc j) q → Largest best (suc n) j q
+  later best n j q a b r = (a, λ i lo hi. go i lo hi (ℕ-discrete i j))
+    where
+      go : (i : ℕ) → j ≤ i → i < j + suc n → Dec (i ≡ j) → smaller F of i xs ≤ smaller F of q xs
+      go i lo hi (yes e) = rw e b
+      go i lo hi (no e) = r .1 i (omega arith) (omega arith)
+
+  pub largest : (n j best : ℕ) → Largest best n j (bestOf F of xs best (upFrom n j))
+  unfolding upFrom bestOf
+  largest zero j best = (omega arith, λ i lo hi. absurd (omega arith))
+  largest (suc n) j best =
+      better (Largest best (suc n) j) best j (upFrom n (suc j))
+      (λ h. let r = largest n (suc j) j in later best n j (bestOf F of xs j (upFrom n (suc j))) (omega (arith, r .0)) (r .0) (omega (arith, r .0), r .1))
+      (λ h. let r = largest n (suc j) best in later best n j (bestOf F of xs best (upFrom n (suc j))) (r .0) (omega (arith, r .0)) r)
+
+  within : (n j best : ℕ) → 1 ≤ best → best ≤ j → 1 ≤ j → (1 ≤ bestOf F of xs best (upFrom n (suc j))) × (bestOf F of xs best (upFrom n (suc j)) ≤ j + n)
+  unfolding upFrom bestOf
+  within zero j best a b c = (a, omega arith)
+  within (suc n) j best a b c =
+      better (λ q. (1 ≤ q) × (q ≤ j + suc n)) best (suc j) (upFrom n (suc (suc j)))
+      (λ h. let r = within n (suc j) (suc j) (omega arith) (omega arith) (omega arith) in (r .0, omega (arith, r .1)))
+      (λ h. let r = within n (suc j) best a (omega arith) (omega arith) in (r .0, omega (arith, r .1)))
+
+  pub best-within : 1 ≤ F → (1 ≤ bestPosition F of xs) × (bestPosition F of xs ≤ F)
+  best-within h = let r = within (F - 1) 1 1 (omega arith) (omega arith) (omega arith) in (r .0, omega (arith, r .1))
+
+  pub best-largest : (i : ℕ) → 1 ≤ i → i ≤ F → smaller F of i xs ≤ smaller F of (bestPosition F of xs) xs
+  best-largest i lo hi = let r = largest (F - 1) 2 1 in go (ℕ-discrete i 1) (r .0) (r .1 i)
+    where
+      go : Dec (i ≡ 1) → smaller F of 1 xs ≤ smaller F of (bestPosition F of xs) xs → (2 ≤ i → i < 2 + (F - 1) → smaller F of i xs ≤ smaller F of (bestPosition F of xs) xs) → smaller F of i xs ≤ smaller F of (bestPosition F of xs) xs
+      go (yes e) a b = rw e a
+      go (no e) a b = b (omega arith) (omega arith)
+
+-- it depends on the entries alone
+bestOf-same : (F : ℕ) (of : ℕ → ℕ) (a b : List ℕ) → Same a b → (ps : List ℕ) (best : ℕ) → bestOf F of a best ps ≡ bestOf F of b best ps
+unfolding bestOf
+bestOf-same F of a b s [] best = refl
+bestOf-same F of a b s (p ∷ ps) best = rw (smaller-same F of best a b s, smaller-same F of p a b s) (bestOf-same F of a b s ps _)
+
+pub best-same : (F : ℕ) (of : ℕ → ℕ) (a b : List ℕ) → Same a b → bestPosition F of a ≡ bestPosition F of b
+best-same F of a b s = bestOf-same F of a b s (upFrom (F - 1) 2) 1
+
+-- where the smaller side is empty the first two entries agree
+agree : (F : ℕ) (of : ℕ → ℕ) (p x y : ℕ) (l : List ℕ) → smaller F of p (x ∷ y ∷ l) ≡ 0 → bitAt F (of x) p ≡ bitAt F (of y) p
+unfolding smaller
+agree F of p x y l e =
+    let g : List ℕ = x ∷ y ∷ l in
+    omega (arith, bit-below F (of x) p, bit-below F (of y) p, ones-total F of p g, sides-length F of p g, few l)
+  where
+    few : (l : List ℕ) → total (λ b. bitAt F (of b) p) l ≤ length l
+    few [] = omega arith
+    few (b ∷ l) = omega (arith, bit-below F (of b) p, few l)
+
+module _ (F : ℕ) (sigs : List ℕ) (below : Below F sigs) where
+  hits-self : (v b : ℕ) → signatureOf sigs b ≡ v → hits sigs v b ≡ 1
+  unfolding hits
+  hits-self v b e = rw (eq-eqb (signatureOf sigs b) v e, hits)
+
+  -- two blocks of a group have not one signature
+  not-one : (x y : ℕ) (l : List ℕ) → Apart sigs (x ∷ y ∷ l) → signatureOf sigs x ≡ signatureOf sigs y → ⊥
+  unfolding Apart
+  not-one x y l d e =
+      let v : ℕ = signatureOf sigs y in
+      omega (arith, d v, hits-self v x e, hits-self v y refl)
+
+  none-split : (x y : ℕ) (l : List ℕ) → 0 ≡ smaller F (signatureOf sigs) (bestPosition F (signatureOf sigs) (x ∷ y ∷ l)) (x ∷ y ∷ l) → signatureOf sigs x ≡ signatureOf sigs y
+  unfolding Below
+  none-split x y l e =
+      bits-equal F (signatureOf sigs x) (signatureOf sigs y) (below (x - 1)) (below (y - 1)) (λ j lo hi.
+      agree F (signatureOf sigs) j x y l (omega (arith, best-largest F (signatureOf sigs) (x ∷ y ∷ l) j lo hi)))
+
+  -- both sides have some
+  pub splits : (g : List ℕ) → Apart sigs g → 2 ≤ length g
+      → (0 < length (side F (signatureOf sigs) (bestPosition F (signatureOf sigs) g) 0 g)) × (0 < length (side F (signatureOf sigs) (bestPosition F (signatureOf sigs) g) 1 g))
+  unfolding smaller
+  splits [] d h = absurd (omega arith)
+  splits (x ∷ []) d h = absurd (omega arith)
+  splits (x ∷ y ∷ l) d h =
+      let z : 0 ≤ smaller F (signatureOf sigs) (bestPosition F (signatureOf sigs) (x ∷ y ∷ l)) (x ∷ y ∷ l) = zero-le in
+      ⊎-elim (λ e. absurd (not-one x y l d (none-split x y l e))) (λ lt. omega arith) (eq-or-lt-of-le z)
+
+-- a side of a group is a group
+pub apart-side : (F : ℕ) (sigs : List ℕ) (p e : ℕ) (g : List ℕ) → e ≤ 1 → Apart sigs g → Apart sigs (side F (signatureOf sigs) p e g)
+unfolding Apart
+apart-side F sigs p zero g h d v = omega (arith, d v, sides-total F (signatureOf sigs) p (hits sigs v) g)
+apart-side F sigs p (suc zero) g h d v = omega (arith, d v, sides-total F (signatureOf sigs) p (hits sigs v) g)
+apart-side F sigs p (suc (suc e)) g h d v = absurd (omega arith)
+
+pub apart-same : (sigs a b : List ℕ) → Same a b → Apart sigs a → Apart sigs b
+unfolding Apart
+apart-same sigs a b s d v = omega (arith, d v, s (hits sigs v))
+
+-- a turn of the loop that looks for the best position
+module _ (F : ℕ) (of : ℕ → ℕ) (xs : List ℕ) (best j answer : ℕ) where
+  pub turn-yes : j < F → smaller F of best xs < smaller F of (j + 1) xs → bestOf F of xs best (upFrom (F - j) (suc j)) ≡ answer → bestOf F of xs (j + 1) (upFrom (F - (j + 1)) (suc (j + 1))) ≡ answer
+  unfolding upFrom
+  turn-yes h lt e =
+      let n : F - j ≡ suc (F - (j + 1)) = omega arith in
+      let o : j + 1 ≡ suc j = omega arith in
+      let w : bestOf F of xs best (suc j ∷ upFrom (F - (j + 1)) (suc (suc j))) ≡ answer = rw n at e in
+      rw o (sym (best-yes F of xs best (suc j) _ (rw o at lt)) ∙ rw o at w)
+
+  pub turn-no : j < F → smaller F of (j + 1) xs ≤ smaller F of best xs → bestOf F of xs best (upFrom (F - j) (suc j)) ≡ answer → bestOf F of xs best (upFrom (F - (j + 1)) (suc (j + 1))) ≡ answer
+  unfolding upFrom
+  turn-no h le e =
+      let n : F - j ≡ suc (F - (j + 1)) = omega arith in
+      let o : j + 1 ≡ suc j = omega arith in
+      let w : bestOf F of xs best (suc j ∷ upFrom (F - (j + 1)) (suc (suc j))) ≡ answer = rw n at e in
+      rw o (sym (best-no F of xs best (suc j) _ (rw o at le)) ∙ rw o at w)
+
+  pub turn-end : j ≡ F → bestOf F of xs best (upFrom (F - j) (suc j)) ≡ answer → best ≡ answer
+  unfolding upFrom bestOf
+  turn-end h e = let n : F - j ≡ 0 = omega arith in rw n at e
