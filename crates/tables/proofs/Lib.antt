@@ -2,6 +2,7 @@ pub mod Shapes
 pub mod Counts
 pub mod Trees
 pub mod Facts
+pub mod Fits
 pub mod Sides
 pub mod Steps
 pub mod Ways

@@ -1,0 +1,61 @@
+// Question 4: do the lengths, B, F and words 0 and 1 fit? And question 5, is a block one of the tables'?
+ghost use mathlib.Core.Path.{_≡_};
+ghost use mathlib.Core.Bool.{true, _&&_};
+ghost use lib.Dec.{eqb, leb};
+ghost use lib.ListN.{length};
+ghost use Rattle.model.specs.Tables.{linksOf, widthOf};
+ghost use Rattle.model.specs.Sound.{FitsAt};
+ghost use Rattle.model.specs.Questions.{blocksFit, widthFits, asksTables, tablesFit};
+
+// the largest number of blocks, and the widest width
+const MOST_BLOCKS: usize = 65535;
+
+const WIDEST: u32 = 64;
+
+// Do the lengths of the two slices fit? There are as many blocks as signatures.
+pub fn lengths_fit(blocks: usize, links: usize) -> bool
+    ensures { λ r. ⌜ r ≡ (blocksFit blocks && eqb links (linksOf blocks)) ⌝ }
+{
+    if blocks < 1 {
+        return false;
+    }
+    if MOST_BLOCKS < blocks {
+        return false;
+    }
+    links == 5 * blocks + 2
+}
+
+// Is the width one that signatures can have?
+pub fn width_fits(width: u32) -> bool
+    ensures { λ r. ⌜ r ≡ widthFits width ⌝ }
+{
+    if width < 1 {
+        return false;
+    }
+    width <= WIDEST
+}
+
+// Question 4, as all calls but clear ask it; a yes says all that a caller needs to read the tables.
+pub fn tables_fit(signatures: &[u64], links: &[u32]) -> bool
+    ensures asked { λ r. ⌜ r ≡ tablesFit (asksTables (now (signatures .entry)) (now (links .entry))) ⌝ }
+    ensures fit { λ r. ⌜ (r ≡ true → FitsAt (length (now (signatures .entry))) (widthOf (now (links .entry))) (now (signatures .entry)) (now (links .entry))) ⌝ }
+{
+    let blocks = signatures.len();
+    if !lengths_fit(blocks, links.len()) {
+        return false;
+    }
+    if !width_fits(links[0]) {
+        return false;
+    }
+    links[1] as usize == blocks
+}
+
+// Question 5: is the block 1 to B?
+pub fn is_block(block: u32, blocks: usize) -> bool
+    ensures { λ r. ⌜ r ≡ (leb 1 block && leb block blocks) ⌝ }
+{
+    if block < 1 {
+        return false;
+    }
+    block as usize <= blocks
+}
