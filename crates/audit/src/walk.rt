@@ -1,0 +1,182 @@
+// The walk from the root down, which calls itself on each side. It ends on any words: positions untested fall at each call, and the
+// nodes and blocks that it may look at are lent to it.
+ghost use mathlib.Core.Path.{_≡_};
+ghost use Prim.Native.Nat.{_≤_};
+ghost use lib.ListN.{length};
+ghost use Rattle.model.specs.Limits.{mostBlocks, widest};
+ghost use Rattle.model.specs.Tables.{linksOf, widthOf};
+ghost use Rattle.audit.specs.Audit.{Fits, failed, leafTwin, unfit, lookTwin, passedBy, walkTwin, treeTwin};
+use super::chain::follow;
+
+// The nodes, and the blocks on chains, that a walk may look at.
+pub struct Lent {
+    pub nodes: u32,
+    pub blocks: u32,
+}
+
+// What a subtree gave: whether it is fit, and what is left of that lent to it.
+pub struct Part {
+    pub fit: bool,
+    pub left: Lent,
+}
+
+// The positions tested on the path so far as a mask, and those of them where the right edge was taken.
+pub struct Tested {
+    pub mask: u64,
+    pub edges: u64,
+}
+
+// A node that may stand here: the weight of its position, and its two references. An unfit one has weight 0.
+pub struct Node {
+    pub weight: u64,
+    pub left: u32,
+    pub right: u32,
+}
+
+// An unfit subtree.
+pub(crate) fn no_part() -> Part
+    ensures { λ r. ⌜ r ≡ failed ⌝ }
+{
+    Part {
+        fit: false,
+        left: Lent {
+            nodes: 0,
+            blocks: 0,
+        },
+    }
+}
+
+// A leaf: its signature agrees with every edge on the path, and its chain is fit.
+pub(crate) fn leaf(
+    signatures: &[u64],
+    links: &[u32],
+    tested: Tested,
+    reference: u32,
+    lent: Lent,
+) -> Part
+    requires { ⌜ Fits (now signatures) (now links) ⌝ }
+    requires { ⌜ reference ≤ length (now signatures) ⌝ }
+    ensures { λ r. ⌜ r ≡ leafTwin (now (signatures .entry)) (now (links .entry)) tested reference lent ⌝ }
+{
+    if reference == 0 {
+        return no_part();
+    }
+    let at = reference as usize - 1;
+    let signature = signatures[at];
+    if signature & tested.mask == tested.edges {
+        let chained = follow(signatures, links, signature, reference, lent.blocks);
+        return Part {
+            fit: chained.fit,
+            left: Lent {
+                nodes: lent.nodes,
+                blocks: chained.left,
+            },
+        };
+    }
+    no_part()
+}
+
+// An unfit node.
+pub(crate) fn no_node() -> Node
+    ensures { λ r. ⌜ r ≡ unfit ⌝ }
+{
+    Node {
+        weight: 0,
+        left: 0,
+        right: 0,
+    }
+}
+
+// The node: its position is 1 to the width, and not tested above it.
+pub(crate) fn look(links: &[u32], blocks: usize, mask: u64, node: usize) -> Node
+    requires { ⌜ (blocks ≤ mostBlocks) × (length (now links) ≡ linksOf blocks) × (widthOf (now links) ≤ widest) ⌝ }
+    ensures { λ r. ⌜ r ≡ lookTwin (now (links .entry)) blocks mask node ⌝ }
+{
+    if blocks <= node {
+        return no_node();
+    }
+    let row = 2 * blocks + 3 * node;
+    let width = links[0];
+    let position = links[row + 2];
+    if position == 0 {
+        return no_node();
+    }
+    if width < position {
+        return no_node();
+    }
+    if signature::is_set(mask, width, position) {
+        return no_node();
+    }
+    let one: u64 = 1;
+    Node {
+        weight: one << (width - position),
+        left: links[row + 3],
+        right: links[row + 4],
+    }
+}
+
+// The path one edge further, past a position of this weight: the edge is 0 for the left, the weight for the right.
+pub(crate) fn passed(tested: Tested, weight: u64, edge: u64) -> Tested
+    ensures { λ r. ⌜ r ≡ passedBy tested weight edge ⌝ }
+{
+    Tested {
+        mask: tested.mask | weight,
+        edges: tested.edges | edge,
+    }
+}
+
+// The subtree at a reference, below the tested positions.
+pub(crate) fn walk(
+    signatures: &[u64],
+    links: &[u32],
+    tested: Tested,
+    reference: u32,
+    untested: u32,
+    lent: Lent,
+) -> Part
+    requires { ⌜ Fits (now signatures) (now links) ⌝ }
+    ensures { λ r. ⌜ r ≡ walkTwin untested (now (signatures .entry)) (now (links .entry)) tested reference lent ⌝ }
+{
+    let blocks = signatures.len();
+    let at = reference as usize;
+    if at <= blocks {
+        return leaf(signatures, links, tested, reference, lent);
+    }
+    if untested == 0 {
+        return no_part();
+    }
+    if lent.nodes == 0 {
+        return no_part();
+    }
+    let node = look(links, blocks, tested.mask, at - blocks);
+    if node.weight == 0 {
+        return no_part();
+    }
+    let below = Lent {
+        nodes: lent.nodes - 1,
+        blocks: lent.blocks,
+    };
+    let left = passed(tested, node.weight, 0);
+    let first = walk(signatures, links, left, node.left, untested - 1, below);
+    if !first.fit {
+        return first;
+    }
+    let right = passed(tested, node.weight, node.weight);
+    walk(signatures, links, right, node.right, untested - 1, first.left)
+}
+
+// The tree from the root.
+pub(crate) fn whole_tree(signatures: &[u64], links: &[u32], lent: Lent) -> Part
+    requires { ⌜ Fits (now signatures) (now links) ⌝ }
+    ensures { λ r. ⌜ r ≡ treeTwin (now (signatures .entry)) (now (links .entry)) lent ⌝ }
+{
+    let root = links[2];
+    if root == 0 {
+        return Part {
+            fit: true,
+            left: lent,
+        };
+    }
+    let nothing = Tested { mask: 0, edges: 0 };
+    walk(signatures, links, nothing, root, links[0], lent)
+}
