@@ -1,14 +1,14 @@
 // Audit: are the tables sound? It only reads, ends on any words, and looks at each row, each node and each block on a chain at most once.
+mod answer;
 mod chain;
 mod free;
 mod question;
 mod rows;
-mod verdict;
 mod walk;
 
 ghost use Rattle.model.specs.Promises.{AuditPromise};
+use answer::sound;
 use question::tables_fit;
-use verdict::sound;
 
 // The audit: 4 where question 4 says no, else 0 where the tables are sound, else 11.
 pub fn audit(signatures: &[u64], links: &[u32]) -> u32

@@ -162,7 +162,14 @@ pub(crate) fn walk(
         return first;
     }
     let right = passed(tested, node.weight, node.weight);
-    walk(signatures, links, right, node.right, untested - 1, first.left)
+    walk(
+        signatures,
+        links,
+        right,
+        node.right,
+        untested - 1,
+        first.left,
+    )
 }
 
 // The tree from the root.

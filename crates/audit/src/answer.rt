@@ -3,7 +3,8 @@ ghost use mathlib.Core.Path.{_≡_};
 ghost use Rattle.audit.specs.Audit.{Fits, soundb};
 use super::free::free_chain;
 use super::rows::check_rows;
-use super::walk::{Lent, whole_tree};
+use super::walk::Lent;
+use super::walk::whole_tree;
 
 // Whether tables that fit are sound. The tree is lent all nodes, and as many blocks as are filed: none may be left over.
 pub(crate) fn sound(signatures: &[u64], links: &[u32]) -> bool

@@ -1,0 +1,58 @@
+-- A list with no element twice, inside one that is no longer, has all of its elements; and the filed blocks as such a list.
+-- Assumes nothing.
+use Prim.Native.Nat.{ℕ, zero, suc, _+_, _≤_}
+use native.Mathlib.Decide.{ℕ-discrete}
+use native.Mathlib.Omega.{arith}
+use mathlib.Core.Path.{_≡_, refl, ap}
+use mathlib.Core.Logic.{_⊎_, inl, inr, _≢_}
+use mathlib.Core.Bool.{Bool, true, false}
+use mathlib.Core.List.{List, [], _∷_, List·Memᴰ, List·Memᴰ·cases-cons, Memᴰ·cast}
+use lib.Dec.{eqb}
+use lib.ListN.{length}
+use borrow.Author.Tests.{eq-eqb, ne-eqb, eqb-true}
+use Rattle.model.specs.Basics.{keep, has}
+use Rattle.model.specs.Tables.{filedOf}
+use Rattle.model.specs.Sound.{filedUpTo}
+use Rattle.model.proofs.Pigeon.{Distinct, distinct-fits, downFrom, downFrom-has, downFrom-range, downFrom-distinct}
+use Rattle.model.proofs.Members.{has-in, not-in}
+use Rattle.model.proofs.Keep.{keep-yes, keep-no, keep-in, in-keep, keep-distinct}
+
+pub full : (xs ys : List ℕ) → Distinct xs → ((x : ℕ) → List·Memᴰ x xs → List·Memᴰ x ys) → length ys ≤ length xs → (y : ℕ) → List·Memᴰ y ys → List·Memᴰ y xs
+full xs ys d i h y m = go (has y xs) refl
+  where
+    more : (x : ℕ) → (x ≡ y) ⊎ List·Memᴰ x xs → List·Memᴰ x ys
+    more x (inl e) = Memᴰ·cast e m
+    more x (inr k) = i x k
+
+    go : (t : Bool) → has y xs ≡ t → List·Memᴰ y xs
+    go true e = has-in y xs e
+    go false e = absurd (omega (arith, distinct-fits (y ∷ xs) ys (not-in y xs e, d) (λ x k. more x (List·Memᴰ·cases-cons k))))
+
+abbrev pub isFiled : List ℕ → ℕ → Bool
+isFiled L b = eqb (filedOf L b) 1
+
+module _ (L : List ℕ) where
+  -- the filed ones of the blocks 1 to n
+  abbrev pub filedList : ℕ → List ℕ
+  filedList n = keep (isFiled L) (downFrom n)
+
+  pub filed-length : (n : ℕ) → ((b : ℕ) → 1 ≤ b → b ≤ n → filedOf L b ≤ 1) → length (filedList n) ≡ filedUpTo L n
+  unfolding keep
+  filed-length zero bit = refl
+  filed-length (suc n) bit = go (ℕ-discrete (filedOf L (suc n)) 1) (filed-length n (λ b h k. bit b h (omega arith)))
+    where
+      go : Dec (filedOf L (suc n) ≡ 1) → length (filedList n) ≡ filedUpTo L n → length (filedList (suc n)) ≡ filedUpTo L (suc n)
+      go (yes e) ih = omega (arith, ap length (keep-yes (isFiled L) (suc n) (downFrom n) (eq-eqb _ _ e)))
+      go (no ne) ih = omega (arith, ap length (keep-no (isFiled L) (suc n) (downFrom n) (ne-eqb _ _ ne)), bit (suc n) (omega arith) (omega arith))
+
+  pub filed-in : (n b : ℕ) → List·Memᴰ b (filedList n) → (1 ≤ b) × (b ≤ n) × (filedOf L b ≡ 1)
+  filed-in n b m =
+      let q = keep-in (isFiled L) (downFrom n) b m in
+      let g = downFrom-range n b (q .0) in
+      (g .0, g .1, eqb-true _ _ (q .1))
+
+  pub filed-has : (n b : ℕ) → 1 ≤ b → b ≤ n → filedOf L b ≡ 1 → List·Memᴰ b (filedList n)
+  filed-has n b h k e = in-keep (isFiled L) (downFrom n) b (downFrom-has n b h k) (eq-eqb _ _ e)
+
+  pub filed-distinct : (n : ℕ) → Distinct (filedList n)
+  filed-distinct n = keep-distinct (isFiled L) (downFrom n) (downFrom-distinct n)

@@ -1,0 +1,115 @@
+-- The cycle of calls {walk} meets its contract: each return is a step of `walkTwin`. The measure is the number of untested positions.
+-- Assumes nothing.
+use Prim.Native.Nat.{ℕ, _<_}
+use native.Mathlib.Omega.{arith}
+use borrow.Author.Needs.{needs}
+use borrow.Author.Tests.{not-true, not-false}
+use borrow.Fn.Kinds.{In, Out}
+use borrow.Fn.PlainCycle.{Measures, is, falls, and}
+use mathlib.Core.Path.{_≡_, sym, _∙_}
+use Rattle.audit.proofs.WalkLaws.{walk-leaf, walk-out, walk-done, walk-bad, walk-stop, walk-both}
+use Rattle.audit.proofs.walk.walk.Reads as walk
+use Rattle.audit.proofs.walk.walk.Kinds as walk-kinds
+use Rattle.audit.proofs.walk.+walk.Lts-walk as walk-lts
+use Rattle.audit.proofs.walk.leaf.Reads as leaf-reads
+use Rattle.audit.proofs.walk.look.Reads as look-reads
+use Rattle.audit.proofs.walk.no_part.Reads as no-part-reads
+use Rattle.audit.proofs.walk.passed.Reads as passed-reads
+use Rattle.audit.proofs.walk.+walk.{statement}
+use Rattle.audit.proofs.walk.+walk.Tie.{close}
+
+abbrev μ-walk : Measures 2 walk-kinds.ps ℕ
+μ-walk κs a = a .1 .1 .1 .1 .0
+
+abbrev walk-at : ℕ → In 2 walk-kinds.ps
+walk-at t = and 2 walk-kinds.ps (is 2 walk-kinds.ps μ-walk t) walk.Pre
+
+abbrev walk-below : ℕ → In 2 walk-kinds.ps
+walk-below t = and 2 walk-kinds.ps (falls 2 walk-kinds.ps _<_ μ-walk t) walk.Pre
+
+-- what the calls ask and give where the measure is t
+abbrev calls : ℕ → walk-lts.Claims
+calls t = (leaf-reads.Asked, leaf-reads.Learnt, no-part-reads.Asked, no-part-reads.Learnt, look-reads.Asked, look-reads.Learnt, passed-reads.Asked, passed-reads.Learnt, walk-below t, walk.Post)
+
+-- a need at each measure
+abbrev At : (walk-lts.Claims → In 2 walk-lts.ps → Out 2 walk-lts.ps walk-lts.r → Type 0) → Type 0
+At need = (t : ℕ) → need (calls t) (walk-at t) walk.Post
+
+leaf-requires : At walk-lts.Need-leaf-requires
+leaf-requires t c κs = search needs
+
+returns : At walk-lts.Need-returns
+returns t c = c .leaf .ensures ∙ sym (walk-leaf _ _ _ _ _ _ (c .before .if1 .taken))
+
+no-part-requires : At walk-lts.Need-no-part-requires
+no-part-requires t c κs = search needs
+
+returns-2 : At walk-lts.Need-returns-2
+returns-2 t c = c .no-part .ensures ∙ sym (walk-out _ _ _ _ _ _ (c .before .before .if1 .left) (c .before .if2 .taken))
+
+no-part-requires-2 : At walk-lts.Need-no-part-requires-2
+no-part-requires-2 t c κs = search needs
+
+returns-3 : At walk-lts.Need-returns-3
+returns-3 t c = c .no-part2 .ensures ∙ sym (walk-done _ _ _ _ _ _ (c .before .before .before .before .if1 .left) (c .before .if3 .taken))
+
+sub-look : At walk-lts.Need-sub-look
+sub-look t c = search needs
+
+look-requires : At walk-lts.Need-look-requires
+look-requires t c κs = search needs
+
+no-part-requires-3 : At walk-lts.Need-no-part-requires-3
+no-part-requires-3 t c κs = search needs
+
+returns-4 : At walk-lts.Need-returns-4
+returns-4 t c = c .no-part3 .ensures ∙ sym (walk-bad _ _ _ _ _ _ (c .before .before .before .before .before .before .before .if1 .left) (c .before .before .before .before .before .before .if2 .left) (c .before .before .before .before .if3 .left) _ (c .before .before .before .look .ensures) (c .before .if4 .taken))
+
+sub-walk : At walk-lts.Need-sub-walk
+sub-walk t c = search needs
+
+passed-requires : At walk-lts.Need-passed-requires
+passed-requires t c κs = search needs
+
+sub-walk-2 : At walk-lts.Need-sub-walk-2
+sub-walk-2 t c = search needs
+
+walk-requires : At walk-lts.Need-walk-requires
+walk-requires t c κs = search needs
+
+returns-5 : At walk-lts.Need-returns-5
+returns-5 t c = walk-stop _ _ _ _ _ _ (c .before .before .before .before .before .before .before .before .before .before .before .if1 .left) (c .before .before .before .before .before .before .before .before .before .before .if2 .left) (c .before .before .before .before .before .before .before .before .if3 .left) _ (c .before .before .before .before .before .before .before .look .ensures) (c .before .before .before .before .before .if4 .left) _ (c .before .before .before .passed .ensures) _ (c .before .before .walk .ensures) (not-true _ (c .if5 .taken))
+
+passed-requires-2 : At walk-lts.Need-passed-requires-2
+passed-requires-2 t c κs = search needs
+
+sub-walk-3 : At walk-lts.Need-sub-walk-3
+sub-walk-3 t c = search needs
+
+walk-requires-2 : At walk-lts.Need-walk-requires-2
+walk-requires-2 t c κs = (omega (arith, c .before .before .before .before .before .before .before .before .before .before .before .before .before .before .before .pre .0, c .before .before .before .before .before .before .before .before .before .before .before .if2 .left), c .before .before .before .before .before .before .before .before .before .before .before .before .before .before .before .pre .1)
+
+returns-6 : At walk-lts.Need-returns-6
+returns-6 t c = walk-both _ _ _ _ _ _ (c .before .before .before .before .before .before .before .before .before .before .before .before .before .if1 .left) (c .before .before .before .before .before .before .before .before .before .before .before .before .if2 .left) (c .before .before .before .before .before .before .before .before .before .before .if3 .left) _ (c .before .before .before .before .before .before .before .before .before .look .ensures) (c .before .before .before .before .before .before .before .if4 .left) _ (c .before .before .before .before .before .passed .ensures) _ (c .before .before .before .before .walk .ensures) _ (c .before .passed2 .ensures) _ (not-false _ (c .before .before .if5 .left)) (c .walk2 .ensures)
+
+pub +walk-spec : {M : Type 1} → statement M
++walk-spec = close μ-walk λ t. walk-lts.spec (calls t) (walk-at t) walk.Post
+    (leaf-requires t)
+    (returns t)
+    (no-part-requires t)
+    (returns-2 t)
+    (no-part-requires-2 t)
+    (returns-3 t)
+    (sub-look t)
+    (look-requires t)
+    (no-part-requires-3 t)
+    (returns-4 t)
+    (sub-walk t)
+    (passed-requires t)
+    (sub-walk-2 t)
+    (walk-requires t)
+    (returns-5 t)
+    (passed-requires-2 t)
+    (sub-walk-3 t)
+    (walk-requires-2 t)
+    (returns-6 t)
