@@ -16,3 +16,4 @@ pub mod Promises
 pub mod Lists
 pub mod Claim
 pub mod Lines
+pub mod Words

@@ -11,7 +11,7 @@ use native.Mathlib.Omega.{arith}
 use lib.Dec.{eqb}
 use lib.Arith.{lt-one, digits-mod}
 use lib.Pow.{pow-pos, pow-add, pow-lt, pow-mono, high, ones-split, ones-lt}
-use lib.Bits.{bitAnd, bitOr, bitXor, differ, and-step, or-step, xor-step, and-shr, or-shr, xor-shr}
+use lib.Bits.{bitAnd, bitOr, bitXor, differ, and-step, or-step, xor-step, and-shr, or-shr, xor-shr, or-lt}
 use borrow.Author.Tests.{eqb-true, eqb-false}
 use Rattle.model.specs.Signature.{bitAt}
 use Rattle.model.proofs.Bits.{bit-below}
@@ -149,3 +149,21 @@ bits-equal (suc F) a b ha hb same =
     (λ j p l. sym (bit-half F a j l) ∙ same j p (omega arith) ∙ bit-half F b j l))
     (sym (bit-last F a) ∙ same (suc F) (omega arith) (omega arith) ∙ bit-last F b)
     ∙ div-add-mod' b 2
+
+below-pow : (n : ℕ) → n < 2 ^ n
+below-pow zero = omega arith
+below-pow (suc n) = omega (arith, pow-suc 2 n, below-pow n)
+
+more-pow : (n m : ℕ) → n ≤ m → n < 2 ^ m
+more-pow n m h = omega (arith, below-pow m)
+
+-- the OR may be grouped either way: the bits agree at a width that holds all three
+pub or-assoc : (a b c : ℕ) → bitOr (bitOr a b) c ≡ bitOr a (bitOr b c)
+or-assoc a b c =
+    let F : ℕ = a + b + c in
+    let ha : a < 2 ^ F = more-pow a F (omega arith) in
+    let hb : b < 2 ^ F = more-pow b F (omega arith) in
+    let hc : c < 2 ^ F = more-pow c F (omega arith) in
+    bits-equal F (bitOr (bitOr a b) c) (bitOr a (bitOr b c))
+    (or-lt F (bitOr a b) c (or-lt F a b ha hb) hc) (or-lt F a (bitOr b c) ha (or-lt F b c hb hc))
+    (λ j p h. omega (arith, bit-or F (bitOr a b) c j, bit-or F a b j, bit-or F a (bitOr b c) j, bit-or F b c j))
