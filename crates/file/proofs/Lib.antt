@@ -1,0 +1,4 @@
+pub mod Good
+pub mod First
+pub mod Joins
+pub mod Splits
