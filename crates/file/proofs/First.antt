@@ -1,19 +1,19 @@
 -- Filing into an empty tree: the root becomes the leaf, and the nodes stay free.
 -- Assumes nothing.
-use Prim.Native.Nat.{ℕ, _+_, _*_, _^_, _≤_, _<_}
+use Prim.Native.Nat.{ℕ}
 use native.Mathlib.Omega.{arith}
 use mathlib.Core.Path.{_≡_, refl, sym, _∙_, ap, subst}
 use mathlib.Core.Logic.{_⊎_, inl, inr}
 use mathlib.Core.List.{List, [], _∷_, List·Memᴰ, List·Memᴰ·head, List·Memᴰ·cases-cons, List·Memᴰ·not-nil}
 use Rattle.model.specs.Tree.{leaf, insert}
-use Rattle.model.specs.Tables.{rootAt, freeAt, nextAt, positionAt, sideAt, rootOf, freeOf, nextOf, filedOf, positionOf, sideOf, signatureOf}
+use Rattle.model.specs.Tables.{rootAt, freeAt, nextAt, positionAt, sideAt, freeOf, filedOf, positionOf, sideOf, signatureOf}
 use Rattle.model.specs.Sound.{tip, Rooted, none, some, nodesIn, blocksIn, SoundAt}
 use Rattle.model.specs.Stores.{Store, _↤_, stores}
 use Rattle.model.specs.File.{filingStores, firstStores, fileSignatures}
 use Rattle.model.proofs.Stores.{stored-same, stored-at}
 use Rattle.tables.proofs.Trees.{treeRooted}
 use Rattle.tables.proofs.Counts.{free-same, free-range}
-use Rattle.tables.proofs.After.{Kept, Quiet, kept-filing, after}
+use Rattle.tables.proofs.After.{kept-filing, after}
 use Rattle.file.proofs.Good.{Fileable, Rows, With, Good, good, not-zero, one, own-signature}
 
 module _ {B F : ℕ} {sigs L : List ℕ} {S : SoundAt B F sigs L} {b s : ℕ} (Q : Fileable S b s) where
@@ -46,13 +46,12 @@ module _ {B F : ℕ} {sigs L : List ℕ} {S : SoundAt B F sigs L} {b s : ℕ} (Q
       (stored-same L all (positionAt B i) (omega (arith, Q .to)), stored-same L all (sideAt B i 0) (omega (arith, Q .to)), stored-same L all (sideAt B i 1) (omega (arith, Q .to)))
 
   made : S .tree ≡ none → With Q L′ kept (some (tip b []))
-  made e = after S b (Q .from) (Q .to) 1 s one (Q .small) (not-zero s) L′ kept (some (tip b []))
-      (
-        stored-at L (filingStores L b ((nextAt b ↤ 0) ∷ [])) rootAt b [] (omega (arith, S .fits .links-long, Q .to)) tt,
-        Q .from,
-        Q .to,
-        stored-at L (filingStores L b []) (nextAt b) 0 ((rootAt ↤ b) ∷ []) (omega (arith, S .fits .links-long, Q .to)) (omega arith),
-      )
+  made e = after S b (Q .from) (Q .to) 1 s one (Q .small) (not-zero s) L′ kept (some (tip b [])) (
+    stored-at L (filingStores L b ((nextAt b ↤ 0) ∷ [])) rootAt b [] (omega (arith, S .fits .links-long, Q .to)) tt,
+    Q .from,
+    Q .to,
+    stored-at L (filingStores L b []) (nextAt b) 0 ((rootAt ↤ b) ∷ []) (omega (arith, S .fits .links-long, Q .to)) (omega arith),
+  )
       (tt, λ c m. let x = only c (List·Memᴰ·cases-cons m) in (ap (filedOf L′) x ∙ kept .filed-own, ap (signatureOf (fileSignatures sigs b s)) x))
       (λ c n m. absurd (List·Memᴰ·not-nil (subst (λ (t : Rooted). List·Memᴰ c (blocksIn t)) e m)))
       (λ _. List·Memᴰ·head refl)

@@ -1,7 +1,7 @@
 -- What a filing of sound tables has to give, whichever of its three ways it takes: the rows kept, sound tables, and the plain tree with the
 -- signature put in. Its ways stand in First, Joins and Splits.
 -- Assumes nothing.
-use Prim.Native.Nat.{ℕ, _+_, _-_, _^_, _≤_, _<_}
+use Prim.Native.Nat.{ℕ, _-_, _^_, _≤_, _<_}
 use native.Mathlib.Omega.{arith}
 use mathlib.Core.Path.{_≡_, sym, _∙_, ap}
 use mathlib.Core.Logic.{_≢_}
@@ -13,7 +13,7 @@ use Rattle.model.specs.File.{fileSignatures}
 use Rattle.tables.proofs.Trees.{treeShape, treeRooted, tree-of-sound}
 use Rattle.tables.proofs.Steps.{insert-noded}
 use Rattle.tables.proofs.Ways.{Way, replace, replace-tree}
-use Rattle.tables.proofs.After.{signature-other, signature-own, Old, old, Kept, Made}
+use Rattle.tables.proofs.After.{signature-other, signature-own, old, Kept, Made}
 
 -- a block and a signature that no question refuses, of sound tables
 pub record Fileable {B F : ℕ} {sigs L : List ℕ} (S : SoundAt B F sigs L) (b s : ℕ) : Type 0 where

@@ -7,9 +7,9 @@ use native.Mathlib.Omega.{arith}
 use mathlib.Core.Path.{_≡_, refl, sym, _∙_, ap, subst}
 use mathlib.Core.Logic.{_⊎_, inl, inr, _≢_}
 use mathlib.Core.List.{List, [], _∷_, List·Memᴰ, List·Memᴰ·head, List·Memᴰ·tail, List·Memᴰ·cases-cons, List·Memᴰ·not-nil, Memᴰ·cast}
-use Rattle.model.specs.Tree.{leaf, insert, Agrees}
-use Rattle.model.specs.Tables.{word, rootAt, freeAt, nextAt, positionAt, sideAt, rootOf, freeOf, nextOf, filedOf, positionOf, sideOf, signatureOf}
-use Rattle.model.specs.Sound.{Shape, tip, some, Holds, Placed, nodes, blocks, FreeChain, SoundAt}
+use Rattle.model.specs.Tree.{leaf, Agrees}
+use Rattle.model.specs.Tables.{word, rootAt, freeAt, nextAt, positionAt, sideAt, freeOf, nextOf, filedOf, positionOf, sideOf, signatureOf}
+use Rattle.model.specs.Sound.{Shape, tip, some, Holds, Placed, nodes, blocks, SoundAt}
 use Rattle.model.specs.Stores.{Store, _↤_, stores}
 use Rattle.model.specs.File.{filingStores, chainStores, fileSignatures}
 use Rattle.model.proofs.Stores.{stored-same, stored-at}
@@ -18,7 +18,7 @@ use Rattle.tables.proofs.Counts.{free-same, free-range}
 use Rattle.tables.proofs.Steps.{insert-equal}
 use Rattle.tables.proofs.Ways.{Way, spot, replace, pathTo, part-blocks, part-holds, part-placed}
 use Rattle.tables.proofs.Links.{spot-link}
-use Rattle.tables.proofs.Graft.{SameNode, graft-nodes-old, graft-nodes-cases}
+use Rattle.tables.proofs.Graft.{graft-nodes-old, graft-nodes-cases}
 use Rattle.tables.proofs.After.{Old, old, kept-filing, after-graft}
 use Rattle.file.proofs.Good.{Fileable, Rows, With, Good, good, not-zero, one, own-signature, another, same-signature, grown}
 

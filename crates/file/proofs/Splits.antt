@@ -2,14 +2,14 @@
 -- The two signatures agree with the leaf's path, so the position where they differ is not tested on it; the new leaf goes to the side of
 -- its own bit there, the old one to the other side.
 -- Assumes nothing.
-use Prim.Native.Nat.{ℕ, _+_, _-_, _*_, _≤_, _<_}
+use Prim.Native.Nat.{ℕ, _+_, _-_, _≤_, _<_}
 use native.Mathlib.Omega.{arith}
 use mathlib.Core.Path.{_≡_, refl, sym, _∙_, ap, subst}
 use mathlib.Core.Logic.{_⊎_, inl, inr, _≢_}
 use mathlib.Core.List.{List, [], _∷_, _++_, List·Memᴰ, List·Memᴰ·head, List·Memᴰ·tail, List·Memᴰ·cases-cons, List·Memᴰ·not-nil, Memᴰ·cast}
 use Rattle.model.specs.Signature.{bitAt, firstDifference}
-use Rattle.model.specs.Tree.{Tree, leaf, insert, Edge, edge, Agrees, Untested}
-use Rattle.model.specs.Tables.{word, rootAt, freeAt, nextAt, positionAt, sideAt, rootOf, freeOf, nextOf, filedOf, positionOf, sideOf, leftOf, signatureOf}
+use Rattle.model.specs.Tree.{leaf, insert, Edge, edge, Agrees, Untested}
+use Rattle.model.specs.Tables.{word, rootAt, freeAt, nextAt, positionAt, sideAt, freeOf, nextOf, filedOf, positionOf, sideOf, leftOf, signatureOf}
 use Rattle.model.specs.Sound.{Shape, tip, some, Holds, Placed, nodes, blocks, FreeChain, SoundAt}
 use Rattle.model.specs.Stores.{Store, _↤_, stores}
 use Rattle.model.specs.File.{filingStores, splitStores, fileSignatures}
@@ -231,11 +231,11 @@ module _ {B F : ℕ} {sigs L : List ℕ} {S : SoundAt B F sigs L} {b s : ℕ} (Q
   -- at the first position where the signatures differ
   pub split-good : (i : ℕ) (is : List ℕ) → S .free ≡ i ∷ is → (n : signatureOf sigs h ≢ s) (d : ℕ) → d ≡ firstDifference F s (signatureOf sigs h) → Good Q (stores L (splitStores B L b sp h i d (bitAt F s d)))
   split-good i is is-f n d is-d = split-made i is is-f d (bitAt F s d) e1 (first .low) (first .high) refl (omega (arith, first .differs, e1, bit-below F a d)) (
-    tree-forked sigs′ (bitAt F s d) i d (tip b []) (tip h cs)
-    ∙ ap (λ (x : ℕ). noded (bitAt F s d) d (leaf x) (leaf (signatureOf sigs′ h))) (own-signature Q)
-    ∙ ap (λ (x : ℕ). noded (bitAt F s d) d (leaf s) (leaf x)) (same-signature Q t is-t h head)
-    ∙ subst (λ (x : ℕ). noded (bitAt F s x) x (leaf s) (leaf a) ≡ insert F s (leaf a)) (sym is-d) (sym (insert-split F s a _ n refl))
-  )
+      tree-forked sigs′ (bitAt F s d) i d (tip b []) (tip h cs)
+      ∙ ap (λ (x : ℕ). noded (bitAt F s d) d (leaf x) (leaf (signatureOf sigs′ h))) (own-signature Q)
+      ∙ ap (λ (x : ℕ). noded (bitAt F s d) d (leaf s) (leaf x)) (same-signature Q t is-t h head)
+      ∙ subst (λ (x : ℕ). noded (bitAt F s x) x (leaf s) (leaf a) ≡ insert F s (leaf a)) (sym is-d) (sym (insert-split F s a _ n refl))
+      )
     where
       e1 : bitAt F s d ≤ 1
       e1 = omega (arith, bit-below F s d)

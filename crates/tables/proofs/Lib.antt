@@ -10,3 +10,4 @@ pub mod Links
 pub mod Graft
 pub mod After
 pub mod Walks
+pub mod Entries
