@@ -9,4 +9,5 @@ pub mod Compared
 pub mod Reached
 pub mod Powers
 pub mod Build
+pub mod Best
 pub mod Marked

@@ -1,0 +1,12 @@
+pub mod Entries
+pub mod Asking
+pub mod Leaves
+pub mod Searching
+pub mod Carried
+pub mod Moves
+pub mod Given
+pub mod Zeros
+pub mod Steps
+pub mod OnSound
+pub mod OnZeros
+pub mod Every
