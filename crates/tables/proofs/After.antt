@@ -6,7 +6,7 @@
 -- says what the tables' tree was, so that no caller looks into the sound value again. Each gives the new sound value with its tree, from
 -- which `tree-of-sound` and `replace-tree` give the plain tree.
 -- Assumes nothing.
-use Prim.Native.Nat.{ℕ, zero, suc, _+_, _-_, _*_, _^_, _≤_, _<_}
+use Prim.Native.Nat.{ℕ, _+_, _-_, _^_, _≤_, _<_}
 use native.Mathlib.Decide.{ℕ-discrete}
 use native.Mathlib.Omega.{arith}
 use mathlib.Core.Path.{_≡_, refl, sym, _∙_, ap, subst}
@@ -15,7 +15,7 @@ use mathlib.Core.List.{List, [], _∷_, List·Memᴰ, Memᴰ·cast}
 use lib.ListN.{length, set, length-set}
 use lib.Seq.{getD-set-same, getD-set-other}
 use Rattle.model.specs.Tables.{word, rootAt, countAt, nextAt, filedAt, widthOf, toldBlocks, rootOf, freeOf, countOf, nextOf, filedOf, signatureOf}
-use Rattle.model.specs.Sound.{Shape, Rooted, none, some, Holds, HoldsRoot, Placed, PlacedRoot, nodes, blocks, nodesIn, blocksIn, FreeChain, filedUpTo, SoundAt}
+use Rattle.model.specs.Sound.{Shape, Rooted, some, Holds, HoldsRoot, Placed, PlacedRoot, nodes, blocks, nodesIn, blocksIn, FreeChain, SoundAt}
 use Rattle.model.specs.Stores.{Store, _↤_, stores}
 use Rattle.model.specs.File.{filingStores}
 use Rattle.model.specs.Withdraw.{withdrawalStores}
@@ -23,7 +23,7 @@ use Rattle.model.proofs.Stores.{Fresh, length-stores, stored-same, stored-at}
 use Rattle.tables.proofs.Shapes.{blocks-range, blocks-placed, nodes-range}
 use Rattle.tables.proofs.Counts.{filed-changed, filed-one}
 use Rattle.tables.proofs.Ways.{Way, spot, replace, pathTo}
-use Rattle.tables.proofs.Links.{IsLink, NoSide, Apart, link-apart}
+use Rattle.tables.proofs.Links.{IsLink, Apart, link-apart}
 use Rattle.tables.proofs.Graft.{SameNode, graft, graft-placed, graft-blocks-new, graft-blocks-old}
 
 -- the signatures where block b's is set to v

@@ -1,15 +1,15 @@
 -- A tree has one node less than leaves, so a free node is left while a block is unfiled; the count of filed blocks; the free chain.
 -- Assumes nothing.
-use Prim.Native.Nat.{ℕ, zero, suc, _+_, _-_, _*_, _≤_, _<_}
+use Prim.Native.Nat.{ℕ, zero, suc, _+_, _-_, _≤_, _<_}
 use native.Mathlib.Decide.{ℕ-discrete}
 use native.Mathlib.Omega.{arith}
 use mathlib.Core.Path.{_≡_, refl, sym, _∙_, ap, subst}
 use mathlib.Core.Logic.{_⊎_, inl, inr, _≢_}
-use mathlib.Core.List.{List, [], _∷_, _++_, List·Memᴰ, List·Memᴰ·head, List·Memᴰ·tail, List·Memᴰ·cases-cons, List·Memᴰ·not-nil, List·Memᴰ·append-cases, Memᴰ·append-left, Memᴰ·append-right, Memᴰ·cast}
+use mathlib.Core.List.{List, [], _∷_, _++_, List·Memᴰ, List·Memᴰ·head, List·Memᴰ·tail, List·Memᴰ·cases-cons, List·Memᴰ·not-nil, List·Memᴰ·append-cases, Memᴰ·append-left, Memᴰ·append-right}
 use lib.ListN.{length, length-append}
 use Rattle.model.specs.Tree.{Edge, edge}
-use Rattle.model.specs.Tables.{word, nextAt, filedAt, positionAt, leftAt, rightAt, signatureOf}
-use Rattle.model.specs.Sound.{Shape, tip, fork, Chain, Holds, nodes, blocks, Placed, FreeChain, filedUpTo}
+use Rattle.model.specs.Tables.{word, filedAt, positionAt, leftAt, rightAt}
+use Rattle.model.specs.Sound.{Shape, tip, fork, Holds, nodes, blocks, Placed, FreeChain, filedUpTo}
 use Rattle.model.proofs.Pigeon.{Distinct, distinct-fits, distinct-append, downFrom, downFrom-length, downFrom-range, downFrom-has, downFrom-distinct}
 use Rattle.tables.proofs.Shapes.{blocks-range, blocks-placed, blocks-apart}
 
@@ -119,3 +119,7 @@ module _ (B : ℕ) (L : List ℕ) where
   free-no-return r i is q m =
       let x = free-inside _ is (q .5) i m in
       omega (arith, ap length (free-one i (i ∷ is) (x .0) (refl, q .1, q .2, q .3, q .4, q .5) (x .1)))
+
+  pub free-distinct : (r : ℕ) (is : List ℕ) → FreeChain B L r is → Distinct is
+  free-distinct r [] q = tt
+  free-distinct r (i ∷ is) q = (free-no-return r i is q, free-distinct (word L (leftAt B i)) is (q .5))

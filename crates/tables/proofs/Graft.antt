@@ -1,7 +1,7 @@
 -- Another shape in the place of the part that a way leads to: the links spell it, it is placed, and what it holds. The words outside the
 -- part stay, and no node and no block stands twice, so the sides that the way does not take are as before.
 -- Assumes nothing.
-use Prim.Native.Nat.{ℕ, zero, suc, _+_, _-_, _≤_, _<_}
+use Prim.Native.Nat.{ℕ, _+_, _-_, _≤_}
 use native.Mathlib.Omega.{arith}
 use mathlib.Core.Path.{_≡_, refl, sym, _∙_, subst}
 use mathlib.Core.Logic.{_⊎_, inl, inr, _≢_}
@@ -10,9 +10,9 @@ use Rattle.model.specs.Tree.{Edge, edge}
 use Rattle.model.specs.Tables.{word, sideAt, nextOf, filedOf, positionOf, sideOf, signatureOf}
 use Rattle.model.specs.Sound.{Shape, Holds, nodes, blocks, Placed}
 use Rattle.tables.proofs.Shapes.{holds-same, placed-same}
-use Rattle.tables.proofs.Sides.{pick, forked, edge-small, on-side, off-side, which-side, sides-held, hold-sides, not-on-sides, sides-placed, place-sides, sides-blocks, sides-nodes}
+use Rattle.tables.proofs.Sides.{pick, edge-small, on-side, off-side, which-side, sides-held, hold-sides, not-on-sides, sides-placed, place-sides, sides-blocks, sides-nodes}
 use Rattle.tables.proofs.Ways.{Way, here, down, spot, replace, pathTo, part-blocks, part-nodes}
-use Rattle.tables.proofs.Links.{IsLink, NoSide, no-side, link-other, link-else, spot-link}
+use Rattle.tables.proofs.Links.{NoSide, no-side, link-other, link-else, spot-link}
 
 -- a node's words are the same, but for a side word at address sp
 abbrev pub SameNode : ℕ → List ℕ → List ℕ → ℕ → ℕ → Type 0

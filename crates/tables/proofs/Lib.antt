@@ -11,3 +11,7 @@ pub mod Graft
 pub mod After
 pub mod Walks
 pub mod Entries
+pub mod Distinct
+pub mod Unique
+pub mod Holders
+pub mod Stored

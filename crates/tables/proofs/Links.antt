@@ -1,11 +1,11 @@
 -- The addresses of a shape's references: that of the shape itself, and the side words of its nodes. No two nodes share a side word,
 -- and no side word is a word of the front, of a row or of a position: addresses are sums that omega tells apart.
 -- Assumes nothing.
-use Prim.Native.Nat.{ℕ, zero, suc, _+_, _-_, _*_, _≤_, _<_}
+use Prim.Native.Nat.{ℕ, _-_, _≤_, _<_}
 use native.Mathlib.Omega.{arith}
 use mathlib.Core.Path.{_≡_, refl, sym, _∙_}
 use mathlib.Core.Logic.{_⊎_, inl, inr, _≢_}
-use mathlib.Core.List.{List, _∷_, List·Memᴰ, List·Memᴰ·head, List·Memᴰ·tail, Memᴰ·cast}
+use mathlib.Core.List.{List, List·Memᴰ, List·Memᴰ·head, List·Memᴰ·tail, Memᴰ·cast}
 use Rattle.model.specs.Tables.{word, rootAt, freeAt, countAt, nextAt, filedAt, positionAt, sideAt, linksOf}
 use Rattle.model.specs.Sound.{Shape, Holds, nodes}
 use Rattle.tables.proofs.Shapes.{nodes-range}

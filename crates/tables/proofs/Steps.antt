@@ -1,9 +1,9 @@
 -- Filing and withdrawing in a plain tree go down by the bits of s: each changes only the side that s takes. These are the steps that
 -- Ways.replace-tree asks of them, and what they do at the leaf.
 -- Assumes nothing.
-use Prim.Native.Nat.{ℕ, zero, suc, _≤_}
+use Prim.Native.Nat.{ℕ, zero, suc}
 use native.Mathlib.Omega.{arith}
-use mathlib.Core.Path.{_≡_, refl, sym}
+use mathlib.Core.Path.{_≡_, refl}
 use mathlib.Core.Logic.{_≢_}
 use mathlib.Core.List.{List}
 use borrow.Author.Tests.{eq-eqb, ne-eqb}

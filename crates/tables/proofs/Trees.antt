@@ -1,17 +1,16 @@
 -- The plain tree of a shape: the tables' tree function gives it wherever the links spell the shape, since the walk down follows the
--- shape's own recursion. A placed shape is at most F deep: the positions on a path are distinct numbers of 1 to F.
+-- shape's own recursion. The tree of a placed shape is proper: Placed says of a shape what Below says of a plain tree.
 -- Assumes nothing.
-use Prim.Native.Nat.{ℕ, zero, suc, _+_, _-_, _≤_, max}
+use Prim.Native.Nat.{ℕ, zero, suc, _-_, _≤_, max}
 use native.Mathlib.Omega.{arith}
-use mathlib.Core.Path.{_≡_, refl, sym, _∙_, ap, ap₂}
-use mathlib.Core.Logic.{_⊎_, inl, inr, _≢_}
-use mathlib.Core.List.{List, [], _∷_, List·Memᴰ, List·Memᴰ·head, List·Memᴰ·cases-cons, List·Memᴰ·not-nil, Memᴰ·append-left, Memᴰ·append-right}
-use lib.ListN.{length}
+use mathlib.Core.Path.{_≡_, refl, sym, ap, ap₂, subst}
+use mathlib.Core.Logic.{inl, inr}
+use mathlib.Core.List.{List, [], _∷_, List·Memᴰ, List·Memᴰ·head, Memᴰ·append-left, Memᴰ·append-right}
 use borrow.Author.Tests.{ne-eqb, le-leb, lt-leb}
-use Rattle.model.specs.Tree.{Tree, nothing, leaf, node, Edge, edge, Untested}
+use Rattle.model.specs.Tree.{Tree, nothing, leaf, node, Edge, edge}
 use Rattle.model.specs.Tables.{word, leftAt, rightAt, signatureOf, treeFrom}
 use Rattle.model.specs.Sound.{Shape, tip, fork, Rooted, none, some, Holds, HoldsRoot, blocks, Placed, PlacedRoot, SoundAt}
-use Rattle.model.proofs.Pigeon.{Distinct, distinct-fits, downFrom, downFrom-length, downFrom-has}
+use Rattle.model.proofs.Trees.{Below, Proper, height, height-fits}
 
 -- the longest path's nodes
 abbrev pub depth : Shape → ℕ
@@ -59,38 +58,17 @@ tree-same sigs sigs′ (tip h cs) o = ap leaf (o h (List·Memᴰ·head refl))
 tree-same sigs sigs′ (fork i p l k) o =
     ap₂ (node p) (tree-same sigs sigs′ l (λ c m. o c (Memᴰ·append-left (blocks k) m))) (tree-same sigs sigs′ k (λ c m. o c (Memᴰ·append-right (blocks l) m)))
 
--- a path has at most F nodes, since its positions are distinct
-abbrev positions : List Edge → List ℕ
-positions [] = []
-positions (edge p e ∷ path) = p ∷ positions path
+-- the plain tree of a placed shape stands below the same path, and is as high as the shape is deep
+pub placed-below : (F : ℕ) (sigs L : List ℕ) (es : List Edge) (t : Shape) → Placed F sigs L es t → Below F es (treeShape sigs t)
+placed-below F sigs L es (tip h cs) q = q .0
+placed-below F sigs L es (fork i p l k) q = (q .0, q .1, q .2, placed-below F sigs L (edge p 0 ∷ es) l (q .3), placed-below F sigs L (edge p 1 ∷ es) k (q .4))
 
-untested-new : (p : ℕ) (path : List Edge) → Untested p path → List·Memᴰ p (positions path) → ⊥
-untested-new p [] u m = List·Memᴰ·not-nil m
-untested-new p (edge q e ∷ path) u m = go (List·Memᴰ·cases-cons m) (untested-new p path (u .1))
-  where
-    go : (p ≡ q) ⊎ List·Memᴰ p (positions path) → (List·Memᴰ p (positions path) → ⊥) → ⊥
-    go (inl e′) ih = u .0 e′
-    go (inr n) ih = ih n
-
-abbrev Positions : ℕ → List Edge → Type 0
-Positions F path = Distinct (positions path) × ((p : ℕ) → List·Memᴰ p (positions path) → List·Memᴰ p (downFrom F))
-
-further : (F p e : ℕ) (path : List Edge) → 1 ≤ p → p ≤ F → Untested p path → Positions F path → Positions F (edge p e ∷ path)
-further F p e path h h′ u d = ((untested-new p path u, d .0), λ q m. go q (List·Memᴰ·cases-cons m))
-  where
-    go : (q : ℕ) → (q ≡ p) ⊎ List·Memᴰ q (positions path) → List·Memᴰ q (downFrom F)
-    go q (inl e′) = downFrom-has F q (omega arith) (omega arith)
-    go q (inr n) = d .1 q n
-
-pub depth-fits : (F : ℕ) (sigs L : List ℕ) (path : List Edge) (t : Shape) → Placed F sigs L path t → Positions F path → depth t + length (positions path) ≤ F
-depth-fits F sigs L path (tip h cs) q d = omega (arith, distinct-fits (positions path) (downFrom F) (d .0) (d .1), downFrom-length F)
-depth-fits F sigs L path (fork i p l k) q d =
-    let a = depth-fits F sigs L (edge p 0 ∷ path) l (q .3) (further F p 0 path (q .0) (q .1) (q .2) d) in
-    let b = depth-fits F sigs L (edge p 1 ∷ path) k (q .4) (further F p 1 path (q .0) (q .1) (q .2) d) in
-    omega arith
+height-shape : (sigs : List ℕ) (t : Shape) → height (treeShape sigs t) ≡ depth t
+height-shape sigs (tip h cs) = refl
+height-shape sigs (fork i p l k) = rw (height-shape sigs l, height-shape sigs k)
 
 pub depth-root : (F : ℕ) (sigs L : List ℕ) (t : Shape) → Placed F sigs L [] t → depth t ≤ F
-depth-root F sigs L t q = omega (arith, depth-fits F sigs L [] t q (tt, λ p m. absurd (List·Memᴰ·not-nil m)))
+depth-root F sigs L t q = subst (λ (n : ℕ). n ≤ F) (height-shape sigs t) (height-fits F (treeShape sigs t) (inr (placed-below F sigs L [] t q)))
 
 -- the plain tree of what the root leads to
 abbrev pub treeRooted : List ℕ → Rooted → Tree
@@ -104,3 +82,11 @@ rooted-tree B F sigs L (some t) q pl = treeFrom-shape B sigs L t F (word L 2) q 
 -- the plain tree of sound tables is that of their shape
 pub tree-of-sound : {B F : ℕ} {sigs L : List ℕ} (S : SoundAt B F sigs L) → treeFrom B sigs L F (word L 2) ≡ treeRooted sigs (S .tree)
 tree-of-sound {B} {F} {sigs} {L} S = rooted-tree B F sigs L (S .tree) (S .holds) (S .placed)
+
+-- and it is proper
+rooted-proper : (F : ℕ) (sigs L : List ℕ) (t : Rooted) → PlacedRoot F sigs L t → Proper F (treeRooted sigs t)
+rooted-proper F sigs L none pl = inl refl
+rooted-proper F sigs L (some t) pl = inr (placed-below F sigs L [] t pl)
+
+pub tree-proper : {B F : ℕ} {sigs L : List ℕ} (S : SoundAt B F sigs L) → Proper F (treeFrom B sigs L F (word L 2))
+tree-proper {B} {F} {sigs} {L} S = subst (Proper F) (sym (tree-of-sound S)) (rooted-proper F sigs L (S .tree) (S .placed))

@@ -5,13 +5,13 @@ use Prim.Native.Nat.{ℕ, zero, suc, _-_, _≤_}
 use native.Mathlib.Omega.{arith}
 use mathlib.Core.Path.{_≡_, refl, sym, _∙_, ap, subst}
 use mathlib.Core.Logic.{_⊎_, inl, inr}
-use mathlib.Core.List.{List, [], _∷_, List·Memᴰ, List·Memᴰ·tail}
+use mathlib.Core.List.{List, _∷_, List·Memᴰ, List·Memᴰ·tail}
 use borrow.Author.Tests.{le-leb, lt-leb}
 use Rattle.model.specs.Signature.{bitAt}
 use Rattle.model.specs.Tree.{Tree, Edge, edge, Agrees}
 use Rattle.model.specs.Tables.{word, sideAt, signatureOf}
 use Rattle.model.specs.Sound.{Shape, tip, fork, Holds, nodes, blocks, Placed}
-use Rattle.model.specs.File.{edgeAt, spotFrom}
+use Rattle.model.specs.File.{spotFrom}
 use Rattle.model.proofs.Bits.{bit-cases}
 use Rattle.tables.proofs.Shapes.{blocks-placed}
 use Rattle.tables.proofs.Trees.{depth, treeShape, tree-same}
