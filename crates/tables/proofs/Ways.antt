@@ -37,7 +37,7 @@ reach F s (fork i p l k) = go (bit-cases F s p) (reach F s l) (reach F s k)
     go (inr e) a b = record { head = b .head; others = b .others; to = down 1 l e (b .to) }
 
 -- every shape but the part itself has a step down
-depth-forked : (e i p : ℕ) (x o : Shape) → suc (depth x) ≤ depth (forked e i p x o)
+pub depth-forked : (e i p : ℕ) (x o : Shape) → suc (depth x) ≤ depth (forked e i p x o)
 depth-forked zero i p x o = omega arith
 depth-forked (suc e) i p x o = omega arith
 

@@ -1,0 +1,78 @@
+-- Along a chain to the block before another. A chain has no block twice, so it has at most B, and the search that passes one block
+-- at a time, while it keeps what is left of the chain, ends where the definition's does.
+-- Assumes nothing.
+use Prim.Native.Nat.{ℕ, zero, suc, _+_, _-_, _*_, _≤_, _<_}
+use native.Mathlib.Omega.{arith}
+use mathlib.Core.Path.{_≡_, refl, sym, _∙_, ap, subst}
+use mathlib.Core.Logic.{_⊎_, inl, inr, _≢_}
+use mathlib.Core.List.{List, [], _∷_, List·Memᴰ, List·Memᴰ·cases-cons, List·Memᴰ·not-nil}
+use lib.ListN.{length}
+use borrow.Author.Tests.{eq-eqb, ne-eqb}
+use Rattle.model.specs.Tables.{nextOf}
+use Rattle.model.specs.Sound.{Chain}
+use Rattle.model.specs.Withdraw.{blockBefore}
+use Rattle.model.proofs.Pigeon.{Distinct, distinct-fits, downFrom, downFrom-length, downFrom-has}
+use Rattle.tables.proofs.Shapes.{chain-range, chain-no-return}
+
+module _ (B : ℕ) (L : List ℕ) where
+  pub chain-distinct : (h : ℕ) (cs : List ℕ) → Chain B L h cs → Distinct cs
+  chain-distinct h [] q = tt
+  chain-distinct h (c ∷ cs) q = (chain-no-return B L c cs (q .3), chain-distinct c cs (q .3))
+
+  pub chain-short : (h : ℕ) (cs : List ℕ) → Chain B L h cs → length cs ≤ B
+  chain-short h cs q =
+      omega (arith, downFrom-length B, distinct-fits cs (downFrom B) (chain-distinct h cs q) (λ c m. let r = chain-range B L h cs q c m in downFrom-has B c (r .0) (r .1)))
+
+-- The search for the block before b has come to block c, with n blocks left to pass; a is the definition's answer.
+pub record Sought (B : ℕ) (L : List ℕ) (b a n c : ℕ) : Type 0 where
+  pub rest : List ℕ
+  pub chain : Chain B L c rest
+  pub meets : List·Memᴰ b rest
+  pub short : length rest ≤ n
+  pub same : blockBefore L b n c ≡ a
+
+-- what is left is not empty
+more : (B : ℕ) (L : List ℕ) (b c : ℕ) (ds : List ℕ) → List·Memᴰ b ds → Chain B L c ds → (0 < length ds) × (1 ≤ nextOf L c) × (nextOf L c ≤ B)
+more B L b c [] m q = absurd (List·Memᴰ·not-nil m)
+more B L b c (d ∷ ds) m q = let e = q .0 in let f = q .1 in let g = q .2 in omega arith
+
+module _ {B : ℕ} {L : List ℕ} {b : ℕ} where
+  pub seek : {h : ℕ} (cs : List ℕ) → Chain B L h cs → List·Memᴰ b cs → Sought B L b (blockBefore L b B h) B h
+  seek {h} cs q m = record { rest = cs; chain = q; meets = m; short = chain-short B L h cs q; same = refl }
+
+  module _ {a n c : ℕ} (K : Sought B L b a n c) where
+    pub some-left : 0 < n
+    some-left = let h = more B L b c (K .rest) (K .meets) (K .chain) .0 in omega (arith, K .short)
+
+    pub next-is-block : (1 ≤ nextOf L c) × (nextOf L c ≤ B)
+    next-is-block = let h = more B L b c (K .rest) (K .meets) (K .chain) in (h .1, h .2)
+
+  pub found-before : {a c : ℕ} (n : ℕ) → Sought B L b a n c → nextOf L c ≡ b → c ≡ a
+  unfolding blockBefore
+  found-before zero K e = absurd (omega (arith, some-left K))
+  found-before {a} {c} (suc n) K e = rw (eq-eqb (nextOf L c) b e, blockBefore) at (K .same)
+
+  pub pass : {a c : ℕ} (n : ℕ) → Sought B L b a n c → nextOf L c ≢ b → Sought B L b a (n - 1) (nextOf L c)
+  unfolding blockBefore
+  pass zero K ne = absurd (omega (arith, some-left K))
+  pass {a} {c} (suc n) K ne = go (K .rest) (K .chain) (K .meets) (K .short)
+    where
+      e : suc n - 1 ≡ n
+      e = omega arith
+
+      same : blockBefore L b n (nextOf L c) ≡ a
+      same = rw (ne-eqb (nextOf L c) b ne, blockBefore) at (K .same)
+
+      later : {d : ℕ} {ds : List ℕ} → nextOf L c ≡ d → (b ≡ d) ⊎ List·Memᴰ b ds → List·Memᴰ b ds
+      later x (inl y) = absurd (ne (x ∙ sym y))
+      later x (inr m) = m
+
+      go : (ds : List ℕ) → Chain B L c ds → List·Memᴰ b ds → length ds ≤ suc n → Sought B L b a (suc n - 1) (nextOf L c)
+      go [] q m l = absurd (List·Memᴰ·not-nil m)
+      go (d ∷ ds) q m l = record {
+        rest = ds;
+        chain = subst (λ (x : ℕ). Chain B L x ds) (sym (q .0)) (q .3);
+        meets = later (q .0) (List·Memᴰ·cases-cons m);
+        short = omega arith;
+        same = rw e same;
+      }

@@ -1,0 +1,99 @@
+-- Each case of a plan makes the definition's stores: the tests that led there are the definition's tests.
+-- Assumes nothing.
+use Prim.Native.Nat.{ℕ, zero, suc, _+_, _-_, _*_, _≤_, _<_}
+use native.Mathlib.Omega.{arith}
+use mathlib.Core.Path.{_≡_, refl, sym, _∙_, ap}
+use mathlib.Core.Logic.{_⊎_, inl, inr, _≢_}
+use mathlib.Core.Bool.{Bool, true, false, _&&_}
+use mathlib.Core.List.{List, [], _∷_, List·Memᴰ, List·Memᴰ·cases-cons}
+use lib.Dec.{leb}
+use lib.ListN.{length}
+use borrow.Author.Tests.{eq-eqb, ne-eqb, le-leb, lt-leb, leb-true}
+use Rattle.model.specs.Tables.{word, widthOf, rootOf, countOf, nextAt, nextOf, filedOf, signatureOf}
+use Rattle.model.specs.Sound.{Sound, Chain}
+use Rattle.model.specs.File.{spotOf}
+use Rattle.model.specs.Withdraw.{siblingAt, parentOf, unlinkStores, raiseStores, withdrawStores}
+use Rattle.tables.specs.Walk.{NodeFits, EdgeOf, Parent, Ends}
+use Rattle.tables.proofs.Counts.{filed-one}
+use Rattle.tables.proofs.Walks.{sound-fits}
+use Rattle.withdraw.specs.Plan.{Plans, PlansChain, PlansRaise, PlansHead, storesOf}
+use Rattle.withdraw.proofs.Found.{Found, found-chain}
+use Rattle.withdraw.specs.declared.plan.Plan.{Plan}
+use Rattle.withdraw.specs.declared.plan.Plan.the-variants.{Relink, Raise}
+
+-- question 5's test as a fact, and back
+pub block-in : (B b : ℕ) → (leb 1 b && leb b B) ≡ true → (1 ≤ b) × (b ≤ B)
+block-in B b e = go (leb 1 b) (leb b B) refl refl e
+  where
+    go : (t u : Bool) → leb 1 b ≡ t → leb b B ≡ u → (t && u) ≡ true → (1 ≤ b) × (b ≤ B)
+    go true true x y z = (leb-true 1 b x, leb-true b B y)
+    go true false x y z = absurd (let k : _≡_ {A = ℕ} 0 1 = cc in omega arith)
+    go false u x y z = absurd (let k : _≡_ {A = ℕ} 0 1 = cc in omega arith)
+
+pub not-block : (B b : ℕ) → (leb 1 b && leb b B) ≡ false → 1 ≤ b → b ≤ B → ⊥
+not-block B b e h k = let z : (true && true) ≡ false = rw (le-leb 1 b h, le-leb b B k) at e in let y : _≡_ {A = ℕ} 0 1 = cc in omega arith
+
+-- the block before b leads on past it
+pub unlinks : (B : ℕ) (L : List ℕ) (b c d : ℕ) → c ≡ d → Plans B L b (Relink (nextAt c) (nextOf L b)) (unlinkStores L b d)
+unlinks B L b c d e = rw (← e) (record { is = refl; does = refl })
+
+-- the parent is node i, and x is the edge that leads from it to the leaf, more than 1 where it is unfit
+module _ (B F : ℕ) (L : List ℕ) (b s above i x : ℕ) (e : i ≡ word L above - B) (E : EdgeOf B F L s i x) where
+  pub no-raise : (p : Plan) → 1 < x → PlansRaise B F L b s above p
+  no-raise p h l f = absurd (omega (arith, E .fit (rw e f)))
+
+  pub raises : x ≤ 1 → PlansRaise B F L b s above (Raise above i (word L (2 * B + 3 * i + (4 - x))))
+  raises h l f =
+      let z : 4 - x ≡ 3 + (1 - x) = omega arith in
+      rw (← e, ← E .bit h, z) (record { is = refl; does = refl })
+
+-- b is the head of its chain
+module _ (B F : ℕ) (L : List ℕ) (b s link : ℕ) where
+  pub head-goes-on : nextOf L b ≢ 0 → Plans B L b (Relink link (nextOf L b)) (withdrawStores B F L b s link b (parentOf B F L s))
+  unfolding withdrawStores
+  head-goes-on n = rw (eq-eqb b b refl, withdrawStores, ne-eqb (nextOf L b) 0 n) (record { is = refl; does = refl })
+
+  module _ (above : ℕ) (n : nextOf L b ≡ 0) where
+    pub head-last : above ≡ 0 → ((rootOf L ≤ B) × (above ≡ 0)) ⊎ Parent B F L s above → Plans B L b (Relink 2 0) (withdrawStores B F L b s link b (parentOf B F L s))
+    unfolding withdrawStores
+    head-last z (inl t) = rw (eq-eqb b b refl, withdrawStores, eq-eqb (nextOf L b) 0 n, le-leb (rootOf L) B (t .0)) (record { is = refl; does = refl })
+    head-last z (inr P) = absurd (P .some z)
+
+    pub head-raises : (p : Plan) → above ≢ 0 → PlansRaise B F L b s above p → PlansHead B F L b s link above p
+    unfolding withdrawStores
+    head-raises p z f (inl t) = absurd (z (t .1))
+    head-raises p z f (inr P) = rw (eq-eqb b b refl, withdrawStores, eq-eqb (nextOf L b) 0 n, lt-leb (rootOf L) B (P .root), ← P .parent) (f (P .node) (P .fit))
+
+-- on sound tables, by where the walk ends: there is a block to withdraw, and its chain is found
+module _ (sigs L : List ℕ) (b : ℕ) (b1 : 1 ≤ b) (bB : b ≤ length sigs) (S : Sound sigs L) (filed : filedOf L b ≢ 0) where
+  pub some-filed : countOf L ≢ 0
+  some-filed = omega (arith, S .counted, filed-one L b (length sigs) b1 bB)
+
+  module _ (link above : ℕ) (E : Ends (length sigs) (widthOf L) L (signatureOf sigs b) link above) where
+    pub walk-found : link ≢ 0
+    walk-found = E .fit (sound-fits S (signatureOf sigs b))
+
+    C : Found (length sigs) (widthOf L) sigs L b
+    C = found-chain S b b1 bB (omega (arith, S .filed-bit b b1 bB))
+
+    at : link ≡ spotOf (length sigs) (widthOf L) L (signatureOf sigs b)
+    at = E .spot walk-found
+
+    head-is : word L link ≡ C .head
+    head-is = ap (word L) at ∙ C .reference
+
+    pub plans-head : (p : Plan) → word L link ≡ b → PlansHead (length sigs) (widthOf L) L b (signatureOf sigs b) link above p → Plans (length sigs) L b p (storesOf sigs L b)
+    plans-head p e f =
+        let e′ : word L (spotOf (length sigs) (widthOf L) L (signatureOf sigs b)) ≡ b = rw (← at) e in
+        rw (e′, ← at) (f (E .top walk-found (omega arith)))
+
+    pub plans-chain : (p : Plan) → word L link ≢ b → PlansChain (length sigs) L b (word L link) p → Plans (length sigs) L b p (storesOf sigs L b)
+    unfolding withdrawStores
+    plans-chain p n f = go (List·Memᴰ·cases-cons (C .meets))
+      where
+        n′ : C .head ≢ b
+        n′ e = n (head-is ∙ e)
+
+        go : (b ≡ C .head) ⊎ List·Memᴰ b (C .others) → Plans (length sigs) L b p (storesOf sigs L b)
+        go (inl e) = absurd (n′ (sym e))
+        go (inr m) = rw (C .reference, withdrawStores, ne-eqb (C .head) b n′) (rw (← at) (f (C .others) (rw head-is (C .from)) (rw head-is (C .to)) (rw head-is (C .chain)) m))

@@ -1,0 +1,83 @@
+-- `withdraw::plan::find_before` meets its contract. The invariant: on a chain that has the block, the search of what is left ends
+-- where the definition's does; so it neither runs out nor meets a word that is no block.
+-- Assumes nothing.
+use Prim.Native.Nat.{ℕ, _≤_}
+use mathlib.Core.Path.{sym, _∙_}
+use mathlib.Core.List.{List, List·Memᴰ}
+use borrow.Author.Tests.{not-true, not-false}
+use Rattle.model.specs.Sound.{Chain}
+use Rattle.model.specs.Withdraw.{blockBefore}
+use Rattle.withdraw.proofs.Chains.{Sought, seek, some-left, next-is-block, found-before, pass}
+use Rattle.withdraw.proofs.Plans.{block-in, not-block}
+use borrow.Author.Needs.{needs}
+use native.Mathlib.Omega.{arith}
+use Rattle.withdraw.proofs.plan.find_before.Statement.{statement}
+use Rattle.withdraw.proofs.plan.find_before.Tie as tie
+
+abbrev Inv-loop : tie.InvT-loop
+Inv-loop links blocks block head before₀ left₀ before left =
+    (1 ≤ before)
+    × (before ≤ blocks)
+    × ((cs : List ℕ) → Chain blocks links head cs → List·Memᴰ block cs → Sought blocks links block (blockBefore links block blocks head) left before)
+
+abbrev μ-loop : tie.MeasureT-loop
+μ-loop links blocks block head before₀ left₀ before left = left
+
+loop-holds : tie.Need-loop-holds Inv-loop μ-loop
+loop-holds c = (omega arith, omega arith, seek)
+
+cast-next : tie.Need-cast-next Inv-loop μ-loop
+cast-next c = search needs
+
+mul-next : tie.Need-mul-next Inv-loop μ-loop
+mul-next c = search needs
+
+add-next : tie.Need-add-next Inv-loop μ-loop
+add-next c = search needs
+
+mul-next-2 : tie.Need-mul-next-2 Inv-loop μ-loop
+mul-next-2 c = search needs
+
+shared-slice-read-next : tie.Need-shared-slice-read-next Inv-loop μ-loop
+shared-slice-read-next c = omega arith
+
+returns : tie.Need-returns Inv-loop μ-loop
+returns c = ((λ cs q m. (found-before _ (c .before .before .before .loop .inv .2 cs q m) (c .if1 .taken), omega arith)), omega arith)
+
+is-block-requires : tie.Need-is-block-requires Inv-loop μ-loop
+is-block-requires c κs = search needs
+
+returns-2 : tie.Need-returns-2 Inv-loop μ-loop
+returns-2 c = ((λ cs q m. let k = next-is-block (c .before .before .before .before .before .loop .inv .2 cs q m) in absurd (not-block _ _ (sym (c .before .is-block .ensures) ∙ not-true _ (c .if2 .taken)) (k .0) (k .1))), omega arith)
+
+sub-left : tie.Need-sub-left Inv-loop μ-loop
+sub-left c = search needs
+
+loop-less : tie.Need-loop-less Inv-loop μ-loop
+loop-less c = search needs
+
+loop-again : tie.Need-loop-again Inv-loop μ-loop
+loop-again c = let r = block-in _ _ (sym (c .before .is-block .ensures) ∙ not-false _ (c .if2 .left)) in (r .0, r .1, λ cs q m. pass _ (c .before .before .before .before .before .loop .inv .2 cs q m) (c .before .before .if1 .left))
+
+returns-3 : tie.Need-returns-3 Inv-loop μ-loop
+returns-3 c = ((λ cs q m. let k = some-left (c .before .loop .inv .2 cs q m) in absurd (omega arith)), omega arith)
+
+pub find-before-spec : {M : Type 1} → statement M
+find-before-spec =
+    tie.close
+    (tie.spec
+    Inv-loop
+    μ-loop
+    loop-holds
+    cast-next
+    mul-next
+    add-next
+    mul-next-2
+    shared-slice-read-next
+    returns
+    is-block-requires
+    returns-2
+    sub-left
+    loop-less
+    loop-again
+    returns-3)

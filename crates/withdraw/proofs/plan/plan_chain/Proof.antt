@@ -1,0 +1,62 @@
+-- `withdraw::plan::plan_chain` meets its contract: on a chain that has the block, its head is one, and the block before is found.
+-- Assumes nothing.
+use mathlib.Core.Path.{sym, _∙_}
+use borrow.Author.Tests.{not-true, not-false}
+use Rattle.withdraw.proofs.Plans.{block-in, not-block, unlinks}
+use borrow.Author.Needs.{needs}
+use native.Mathlib.Omega.{arith}
+use Rattle.withdraw.proofs.plan.plan_chain.Statement.{statement}
+use Rattle.withdraw.proofs.plan.plan_chain.Tie as tie
+
+is-block-requires : tie.Need-is-block-requires
+is-block-requires c κs = search needs
+
+returns : tie.Need-returns
+returns c = ((λ cs h k q m. absurd (not-block _ _ (sym (c .before .is-block .ensures) ∙ not-true _ (c .if1 .taken)) h k)), tt)
+
+find-before-requires : tie.Need-find-before-requires
+find-before-requires c κs = let r = block-in _ _ (sym (c .before .is-block .ensures) ∙ not-false _ (c .if1 .left)) in (omega arith, omega arith, r .0, r .1)
+
+returns-2 : tie.Need-returns-2
+returns-2 c = ((λ cs h k q m. let z = c .before .find-before .ensures .0 cs q m .1 in absurd (omega (arith, c .if2 .taken))), tt)
+
+cast-at : tie.Need-cast-at
+cast-at c = search needs
+
+mul-at : tie.Need-mul-at
+mul-at c = search needs
+
+add-at : tie.Need-add-at
+add-at c = search needs
+
+mul-t10 : tie.Need-mul-t10
+mul-t10 c = search needs
+
+add-t11 : tie.Need-add-t11
+add-t11 c = search needs
+
+mul-t12 : tie.Need-mul-t12
+mul-t12 c = search needs
+
+shared-slice-read-t14 : tie.Need-shared-slice-read-t14
+shared-slice-read-t14 c = search needs
+
+returns-3 : tie.Need-returns-3
+returns-3 c = ((λ cs h k q m. unlinks _ _ _ _ _ (c .before .before .find-before .ensures .0 cs q m .0)), (omega arith, omega (arith, c .before .before .find-before .ensures .1)))
+
+pub plan-chain-spec : {M : Type 1} → statement M
+plan-chain-spec =
+    tie.close
+    (tie.spec
+    is-block-requires
+    returns
+    find-before-requires
+    returns-2
+    cast-at
+    mul-at
+    add-at
+    mul-t10
+    add-t11
+    mul-t12
+    shared-slice-read-t14
+    returns-3)
