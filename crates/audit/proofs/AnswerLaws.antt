@@ -9,9 +9,8 @@ use lib.ListN.{length}
 use borrow.Author.Tests.{eq-eqb, ne-eqb}
 use Rattle.model.specs.Tables.{countOf, freeOf}
 use Rattle.model.specs.Sound.{filedUpTo}
-use Rattle.audit.specs.declared.walk.Lent.{Lent}
 use Rattle.audit.specs.declared.walk.Part.{Part}
-use Rattle.audit.specs.Audit.{pick, rowsOk, treeTwin, freeTwin, lentTree, restOk, soundb}
+use Rattle.audit.specs.Audit.{rowsOk, treeTwin, freeTwin, lentTree, restOk, soundb}
 
 module _ (S L : List ℕ) where
   pub sound-rows : rowsOk S L (length S) ≡ false → soundb S L ≡ false

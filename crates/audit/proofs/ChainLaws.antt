@@ -10,11 +10,11 @@ use mathlib.Core.Bool.{Bool, true, false}
 use mathlib.Core.List.{List, [], _∷_, List·Memᴰ, List·Memᴰ·head, List·Memᴰ·tail, List·Memᴰ·cases-cons, List·Memᴰ·not-nil}
 use lib.Dec.{eqb, ltb}
 use lib.ListN.{length}
-use borrow.Author.Tests.{eq-eqb, ne-eqb, le-ltb, eqb-true, ltb-false}
+use borrow.Author.Tests.{eq-eqb, ne-eqb, lt-ltb, le-ltb, eqb-true, ltb-false}
 use Rattle.model.specs.Tables.{nextOf, filedOf, signatureOf}
 use Rattle.model.specs.Sound.{Chain}
 use Rattle.audit.specs.declared.chain.Chained.{Chained}
-use Rattle.audit.specs.Audit.{pick, blockOk, stuck, chainTwin}
+use Rattle.audit.specs.Audit.{blockOk, stuck, chainTwin}
 use Rattle.audit.proofs.Picks.{no-bool, pick-false, pick-true}
 
 pub pos-ne : {b : ℕ} → 0 < b → b ≡ 0 → ⊥
@@ -39,6 +39,20 @@ block-yes S L s b e =
 block-whole : (S L : List ℕ) (s b : ℕ) → BlockIs S L s b → blockOk S L s b ≡ true
 unfolding blockOk
 block-whole S L s b x = simp (le-ltb _ _ (x .to), eq-eqb _ _ (x .filed), eq-eqb _ _ (x .same))
+
+-- the test of a block, as the code takes it
+pub block-far : (S L : List ℕ) (s b : ℕ) → length S < b → blockOk S L s b ≡ false
+unfolding blockOk
+block-far S L s b h = simp (lt-ltb _ _ h)
+
+module _ (S L : List ℕ) (s b : ℕ) (to : b ≤ length S) {f : ℕ} (at-f : f ≡ filedOf L b) where
+  pub block-unfiled : f ≢ 1 → blockOk S L s b ≡ false
+  unfolding blockOk
+  block-unfiled h = let n : filedOf L b ≢ 1 = λ e. h (at-f ∙ e) in simp (le-ltb _ _ to, ne-eqb _ _ n)
+
+  pub block-filed : f ≡ 1 → (x : ℕ) → x ≡ signatureOf S b → eqb x s ≡ blockOk S L s b
+  unfolding blockOk
+  block-filed h x e = let o : filedOf L b ≡ 1 = sym at-f ∙ h in simp (le-ltb _ _ to, eq-eqb _ _ o) (ap (λ (n : ℕ). eqb n s) e)
 
 -- the steps of a chain's walk
 module _ (S L : List ℕ) (s b : ℕ) where

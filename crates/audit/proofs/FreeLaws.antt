@@ -1,14 +1,14 @@
 -- The free chain's walk: its steps as the code takes them, and that it says yes exactly of a free chain of so many nodes.
 -- Assumes nothing.
-use Prim.Native.Nat.{ℕ, zero, suc, _+_, _-_, _≤_, _<_}
+use Prim.Native.Nat.{ℕ, zero, suc, _-_, _≤_, _<_}
 use native.Mathlib.Omega.{arith}
 use mathlib.Core.Path.{_≡_, refl, sym, ap, subst}
 use mathlib.Core.Logic.{_≢_}
-use mathlib.Core.Bool.{Bool, true, false}
+use mathlib.Core.Bool.{true, false}
 use mathlib.Core.List.{List, [], _∷_}
 use lib.Dec.{eqb, leb}
 use lib.ListN.{length}
-use borrow.Author.Tests.{eq-eqb, ne-eqb, lt-leb, eqb-true, eqb-false, leb-false}
+use borrow.Author.Tests.{eq-eqb, ne-eqb, le-leb, lt-leb, eqb-true, eqb-false, leb-false}
 use Rattle.model.specs.Tables.{positionOf, leftOf, rightOf}
 use Rattle.model.specs.Sound.{FreeChain}
 use Rattle.audit.specs.Audit.{freeOk, freeTwin}
@@ -34,7 +34,25 @@ module _ (L : List ℕ) (B r : ℕ) where
   pub free-in : freeOk L B r ≡ true → r < B
   free-in e = free-is e .below
 
-  -- the code's steps
+  -- the test of a node, as the code takes it
+  pub free-zero : r ≡ 0 → freeOk L B r ≡ false
+  unfolding freeOk
+  free-zero z = simp (eq-eqb _ _ z)
+
+  pub free-far : r ≢ 0 → B ≤ r → freeOk L B r ≡ false
+  unfolding freeOk
+  free-far nz h = simp (ne-eqb _ _ nz, le-leb _ _ h)
+
+  module _ (nz : r ≢ 0) (h : r < B) {p : ℕ} (at : p ≡ positionOf B L r) where
+    pub free-tests : p ≢ 0 → freeOk L B r ≡ false
+    unfolding freeOk
+    free-tests n = simp (ne-eqb _ _ nz, lt-leb _ _ h, ← at, ne-eqb _ _ n)
+
+    pub free-blank : p ≡ 0 → (x : ℕ) → x ≡ rightOf B L r → eqb x 0 ≡ freeOk L B r
+    unfolding freeOk
+    free-blank z x e = simp (ne-eqb _ _ nz, lt-leb _ _ h, ← at, eq-eqb _ _ z) (ap (λ (n : ℕ). eqb n 0) e)
+
+  -- the steps of the walk
   pub free-end : (k : ℕ) → k ≤ 0 → freeTwin k L B r ≡ eqb r 0
   unfolding freeTwin
   free-end zero h = refl

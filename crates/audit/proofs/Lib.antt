@@ -1,6 +1,5 @@
 -- The audit's yes is soundness, both ways (`Verdict`), and its work is linear (`Work`); before them the steps that both go by.
 pub mod Picks
-pub mod QuestionLaws
 pub mod RowLaws
 pub mod ChainLaws
 pub mod PathLaws
@@ -12,3 +11,5 @@ pub mod Apart
 pub mod WalkYes
 pub mod WalkWhole
 pub mod Verdict
+pub mod Work
+mod Examples

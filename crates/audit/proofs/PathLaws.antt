@@ -1,11 +1,11 @@
 -- The mask of tested positions and the edges taken, two numbers, stand for the path from the root: a position is untested where the
 -- mask has 0, and a signature agrees with the path where its masked bits are the edges. One more edge, left or right, keeps it so.
 -- Assumes nothing.
-use Prim.Native.Nat.{ℕ, zero, suc, _-_, _^_, _≤_, _<_, min, max}
+use Prim.Native.Nat.{ℕ, _-_, _^_, _≤_, _<_, min}
 use native.Mathlib.Nat.{lt-of-le-of-lt}
 use native.Mathlib.Decide.{ℕ-discrete}
 use native.Mathlib.Omega.{arith}
-use mathlib.Core.Path.{_≡_, refl, sym, _∙_, ap, subst}
+use mathlib.Core.Path.{_≡_, sym, _∙_, ap, subst}
 use mathlib.Core.Logic.{_≢_, _↔_}
 use mathlib.Core.List.{List, [], _∷_}
 use lib.Bits.{bitAnd, bitOr, and-zero-r, or-lt, and-le-r}

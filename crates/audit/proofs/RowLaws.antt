@@ -1,6 +1,6 @@
 -- The rows' test: it says yes exactly where each row is in order, and the code takes it row by row.
 -- Assumes nothing.
-use Prim.Native.Nat.{ℕ, zero, suc, _+_, _-_, _*_, _^_, _≤_, _<_}
+use Prim.Native.Nat.{ℕ, zero, suc, _+_, _-_, _^_, _≤_, _<_}
 use native.Mathlib.Decide.{ℕ-discrete}
 use native.Mathlib.Numerals.{add-one}
 use native.Mathlib.Omega.{arith}
@@ -8,9 +8,8 @@ use mathlib.Core.Path.{_≡_, refl, sym, _∙_, ap, subst}
 use mathlib.Core.Bool.{Bool, true, false}
 use mathlib.Core.List.{List}
 use lib.Dec.{eqb, ltb}
-use lib.ListN.{getD}
 use borrow.Author.Tests.{eq-eqb, ne-eqb, lt-ltb, eqb-true, ltb-true}
-use Rattle.model.specs.Tables.{word, widthOf, nextOf, filedOf, signatureOf}
+use Rattle.model.specs.Tables.{widthOf, nextOf, filedOf, signatureOf}
 use Rattle.model.specs.Sound.{filedUpTo}
 use Rattle.audit.specs.Audit.{pick, rowOk, rowsOk}
 use Rattle.audit.proofs.Picks.{pick-true}
@@ -62,12 +61,10 @@ module _ (S L : List ℕ) where
   rows-whole zero h = refl
   rows-whole (suc n) h = simp (rows-whole n (λ b x y. h b x (omega arith)), row-whole _ _ _ _ (h (suc n) (omega arith) (omega arith)))
 
-  -- the code's steps: row n + 1 after n fit rows
-  pub rows-step : (n : ℕ) (t : Bool) → rowsOk S L n ≡ true → rowOk (widthOf L) (getD S n 0) (word L (2 * (n + 1) + 3)) (word L (2 * (n + 1) + 4)) ≡ t → rowsOk S L (n + 1) ≡ t
+  -- the code's steps: row n + 1, of words s, x and f, after n fit rows
+  rows-next : (n : ℕ) (t : Bool) → rowsOk S L n ≡ true → rowOk (widthOf L) (signatureOf S (n + 1)) (nextOf L (n + 1)) (filedOf L (n + 1)) ≡ t → rowsOk S L (n + 1) ≡ t
   unfolding rowsOk
-  rows-step n t e f =
-      let d : suc n - 1 ≡ n = omega arith in
-      rw (add-one n, rowsOk, e, d) (rw (add-one n) at f)
+  rows-next n t e f = rw (add-one n, rowsOk, e) (rw (add-one n) at f)
 
   rows-bad : (m n : ℕ) → n ≤ m → rowsOk S L n ≡ false → rowsOk S L m ≡ false
   unfolding rowsOk
@@ -78,10 +75,14 @@ module _ (S L : List ℕ) where
       go (yes i) ih = ap (rowsOk S L) (sym i) ∙ e
       go (no ne) ih = simp (ih (omega arith))
 
-  pub rows-fail : (m n : ℕ) → n < m → rowsOk S L n ≡ true → rowOk (widthOf L) (getD S n 0) (word L (2 * (n + 1) + 3)) (word L (2 * (n + 1) + 4)) ≡ false → rowsOk S L m ≡ false
-  rows-fail m n h e f = rows-bad m (n + 1) (omega arith) (rows-step n false e f)
+  module _ (n : ℕ) (good : rowsOk S L n ≡ true) {s x f : ℕ} (at-s : s ≡ signatureOf S (n + 1)) (at-x : x ≡ nextOf L (n + 1)) (at-f : f ≡ filedOf L (n + 1)) where
+    pub rows-step : (t : Bool) → rowOk (widthOf L) s x f ≡ t → rowsOk S L (n + 1) ≡ t
+    rows-step t e = rows-next n t good (rw (at-s, at-x, at-f) at e)
 
-pub filed-step : (L : List ℕ) (n : ℕ) → filedUpTo L (n + 1) ≡ filedUpTo L n + word L (2 * (n + 1) + 4)
+    pub rows-fail : (m : ℕ) → n < m → rowOk (widthOf L) s x f ≡ false → rowsOk S L m ≡ false
+    rows-fail m h e = rows-bad m (n + 1) (omega arith) (rows-step false e)
+
+pub filed-step : (L : List ℕ) (n : ℕ) → filedUpTo L (n + 1) ≡ filedUpTo L n + filedOf L (n + 1)
 filed-step L n = rw (add-one n) (omega arith)
 
 pub filed-few : (L : List ℕ) (n : ℕ) → ((b : ℕ) → 1 ≤ b → b ≤ n → filedOf L b ≤ 1) → filedUpTo L n ≤ n

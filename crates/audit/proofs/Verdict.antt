@@ -2,24 +2,24 @@
 -- are built from the walk, and that nothing is left out follows by counting. On sound tables what is lent suffices, since nothing
 -- stands twice.
 -- Assumes nothing.
-use Prim.Native.Nat.{ℕ, zero, suc, _+_, _-_, _≤_, _<_}
+use Prim.Native.Nat.{ℕ, _+_, _-_, _≤_}
 use native.Mathlib.Omega.{arith}
-use mathlib.Core.Path.{_≡_, refl, sym, _∙_, ap}
-use mathlib.Core.Logic.{_⊎_, inl, inr, _≢_, _↔_}
+use mathlib.Core.Path.{_≡_, refl, sym, _∙_}
+use mathlib.Core.Logic.{_⊎_, inl, inr, _↔_}
 use mathlib.Core.Bool.{Bool, true, false}
 use mathlib.Core.List.{List, _++_, List·Memᴰ, List·Memᴰ·append-cases, Memᴰ·append-left, Memᴰ·append-right}
 use lib.Dec.{eqb}
 use lib.ListN.{length, length-append}
-use borrow.Author.Tests.{eq-eqb, ne-eqb, eqb-true}
+use borrow.Author.Tests.{eq-eqb, eqb-true}
 use Rattle.model.specs.Tables.{widthOf, freeOf, countOf, filedOf}
-use Rattle.model.specs.Sound.{nodesIn, blocksIn, filedUpTo, SoundAt, Sound}
+use Rattle.model.specs.Sound.{nodesIn, blocksIn, filedUpTo, Sound}
 use Rattle.model.specs.Questions.{asksTables, tablesFit, ask, auditRefusal}
 use Rattle.model.specs.Promises.{unsound, AuditPromise}
 use Rattle.model.proofs.Pigeon.{distinct-fits, downFrom, downFrom-length, downFrom-range, downFrom-has, downFrom-distinct}
+use Rattle.tables.proofs.Fits.{fits-of}
 use Rattle.audit.specs.declared.walk.Part.{Part}
-use Rattle.audit.specs.Audit.{pick, Fits, rowsOk, treeTwin, freeTwin, lentTree, restOk, soundb, auditTwin}
+use Rattle.audit.specs.Audit.{Fits, rowsOk, treeTwin, lentTree, soundb, auditTwin}
 use Rattle.audit.proofs.Picks.{no-bool, pick-true}
-use Rattle.audit.proofs.QuestionLaws.{fits-yes, fits-whole}
 use Rattle.audit.proofs.RowLaws.{rows-yes, rows-whole}
 use Rattle.audit.proofs.FreeLaws.{free-yes, free-whole}
 use Rattle.audit.proofs.Counting.{full, filedList, filed-length, filed-in, filed-has, filed-distinct}
@@ -111,16 +111,16 @@ module _ (S L : List ℕ) where
   decide-sound = go (tablesFit (asksTables S L)) refl (soundb S L) refl
     where
       go : (f : Bool) → tablesFit (asksTables S L) ≡ f → (s : Bool) → soundb S L ≡ s → Dec (Sound S L)
-      go true e true q = yes (yes-sound S L (fits-yes S L e) q)
+      go true e true q = yes (yes-sound S L (fits-of S L .0 e) q)
       go true e false q = no (λ x. no-bool (sym q ∙ sound-yes S L x))
-      go false e s q = no (λ x. no-bool (sym e ∙ fits-whole S L (x .fits)))
+      go false e s q = no (λ x. no-bool (sym e ∙ fits-of S L .1 (x .fits)))
 
   -- the audit says 0 exactly of sound tables
   pub audit-sound : (auditTwin S L ≡ 0) ↔ Sound S L
-  audit-sound = (go (tablesFit (asksTables S L)) refl (soundb S L) refl, λ x. found-sound (fits-whole S L (x .fits)) (sound-yes S L x))
+  audit-sound = (go (tablesFit (asksTables S L)) refl (soundb S L) refl, λ x. found-sound (fits-of S L .1 (x .fits)) (sound-yes S L x))
     where
       go : (f : Bool) → tablesFit (asksTables S L) ≡ f → (s : Bool) → soundb S L ≡ s → auditTwin S L ≡ 0 → Sound S L
-      go true e true q z = yes-sound S L (fits-yes S L e) q
+      go true e true q z = yes-sound S L (fits-of S L .0 e) q
       go true e false q z = absurd (omega (arith, found-unsound e q))
       go false e s q z = absurd (omega (arith, refused e))
 
@@ -135,7 +135,7 @@ module _ (S L : List ℕ) where
           record { refused = λ x. refused e ∙ sym four; asked = λ x. absurd (omega arith) }
       go true e true q =
           let zero′ : auditRefusal (asksTables S L) ≡ 0 = rw e in
-          record { refused = λ x. absurd (x zero′); asked = λ x. inl (found-sound e q, yes-sound S L (fits-yes S L e) q) }
+          record { refused = λ x. absurd (x zero′); asked = λ x. inl (found-sound e q, yes-sound S L (fits-of S L .0 e) q) }
       go true e false q =
           let zero′ : auditRefusal (asksTables S L) ≡ 0 = rw e in
           record { refused = λ x. absurd (x zero′); asked = λ x. inr (found-unsound e q, λ s. no-bool (sym q ∙ sound-yes S L s)) }

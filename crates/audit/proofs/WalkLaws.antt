@@ -6,23 +6,24 @@ use native.Mathlib.Decide.{decLt, ℕ-discrete}
 use native.Mathlib.Omega.{arith}
 use mathlib.Core.Path.{_≡_, refl, sym, _∙_, ap}
 use mathlib.Core.Logic.{_⊎_, inl, inr, _≢_}
-use mathlib.Core.Bool.{Bool, true, false}
+use mathlib.Core.Bool.{true, false}
 use mathlib.Core.List.{List}
-use lib.Bits.{bitAnd, bitOr}
-use lib.Dec.{eqb, ltb, leb}
+use lib.Bits.{bitAnd}
+use lib.Dec.{eqb}
 use lib.ListN.{length}
 use lib.Pow.{pow-pos, shl-exact}
 use borrow.Author.Tests.{eq-eqb, ne-eqb, lt-ltb, le-ltb, le-leb, lt-leb}
 use Rattle.model.specs.Signature.{bitAt}
 use Rattle.model.specs.Tables.{widthOf, positionOf, leftOf, rightOf, signatureOf}
+use Rattle.audit.specs.declared.chain.Chained.{Chained}
 use Rattle.audit.specs.declared.walk.Lent.{Lent}
 use Rattle.audit.specs.declared.walk.Part.{Part}
 use Rattle.audit.specs.declared.walk.Tested.{Tested}
 use Rattle.audit.specs.declared.walk.Node.{Node}
-use Rattle.audit.specs.Audit.{pick, chainTwin, failed, leafOf, leafTwin, unfit, lookTwin, passedBy, nodeLess, thenRight, sidesTwin, nodeTwin, walkTwin}
+use Rattle.audit.specs.Audit.{pick, chainTwin, failed, leafOf, leafTwin, unfit, lookTwin, passedBy, nodeLess, sidesTwin, walkTwin}
 
--- a weight as the code makes it
-pub one-shl : (l : ℕ) → l < 64 → (1 * 2 ^ l) % 2 ^ 64 ≡ 2 ^ l
+-- a weight by a shift
+one-shl : (l : ℕ) → l < 64 → (1 * 2 ^ l) % 2 ^ 64 ≡ 2 ^ l
 one-shl l h = shl-exact {a = 1} 1 l 64 (omega arith) (omega arith) ∙ one-mul (2 ^ l)
 
 -- a node that may stand below a mask
@@ -33,24 +34,49 @@ pub record NodeIs (L : List ℕ) (B m i : ℕ) : Type 0 where
   pub new : bitAt (widthOf L) m (positionOf B L i) ≡ 0
 
 module _ (L : List ℕ) (B m i : ℕ) where
-  look-whole : NodeIs L B m i → lookTwin L B m i ≡ record { weight = 2 ^ (widthOf L - positionOf B L i); left = leftOf B L i; right = rightOf B L i }
+  -- the test of a node, as the code takes it
+  pub look-far : B ≤ i → lookTwin L B m i ≡ unfit
   unfolding lookTwin
+  look-far h = simp (le-leb _ _ h)
+
+  module _ (h : i < B) {p : ℕ} (at : p ≡ positionOf B L i) where
+    pub look-none : p ≡ 0 → lookTwin L B m i ≡ unfit
+    unfolding lookTwin
+    look-none z = simp (lt-leb _ _ h, eq-eqb _ _ (sym at ∙ z))
+
+    pub look-wide : p ≢ 0 → widthOf L < p → lookTwin L B m i ≡ unfit
+    unfolding lookTwin
+    look-wide nz w = simp (lt-leb _ _ h, ← at, ne-eqb _ _ nz, lt-ltb _ _ w)
+
+    pub look-again : p ≢ 0 → p ≤ widthOf L → eqb (bitAt (widthOf L) m p) 1 ≡ true → lookTwin L B m i ≡ unfit
+    unfolding lookTwin
+    look-again nz w o = simp (lt-leb _ _ h, ← at, ne-eqb _ _ nz, le-ltb _ _ w, o)
+
+    look-new : p ≢ 0 → p ≤ widthOf L → eqb (bitAt (widthOf L) m p) 1 ≡ false → (l r : ℕ) → l ≡ leftOf B L i → r ≡ rightOf B L i
+        → record { weight = 2 ^ (widthOf L - p); left = l; right = r } ≡ lookTwin L B m i
+    unfolding lookTwin
+    look-new nz w o l r el er = simp (lt-leb _ _ h, ← at, ne-eqb _ _ nz, le-ltb _ _ w, o, el, er)
+
+    -- the weight by a shift
+    pub look-made : widthOf L ≤ 64 → p ≢ 0 → p ≤ widthOf L → eqb (bitAt (widthOf L) m p) 1 ≡ false → (l r : ℕ) → l ≡ leftOf B L i → r ≡ rightOf B L i
+        → record { weight = (1 * 2 ^ (widthOf L - p)) % 2 ^ 64; left = l; right = r } ≡ lookTwin L B m i
+    look-made f nz w o l r el er = rw (one-shl (widthOf L - p) (omega arith)) (look-new nz w o l r el er)
+
+  look-whole : NodeIs L B m i → lookTwin L B m i ≡ record { weight = 2 ^ (widthOf L - positionOf B L i); left = leftOf B L i; right = rightOf B L i }
   look-whole x =
       let f = x .from in
       let z = x .new in
-      let nz : positionOf B L i ≢ 0 = omega arith in
       let n1 : bitAt (widthOf L) m (positionOf B L i) ≢ 1 = omega arith in
-      simp (lt-leb _ _ (x .below), ne-eqb _ _ nz, le-ltb _ _ (x .to), ne-eqb _ _ n1)
+      sym (look-new (x .below) refl (omega arith) (x .to) (ne-eqb _ _ n1) _ _ refl refl)
 
   pub look-cases : (lookTwin L B m i ≡ unfit) ⊎ NodeIs L B m i
-  unfolding lookTwin
   look-cases = go (decLt i B) (ℕ-discrete (positionOf B L i) 0) (decLt (widthOf L) (positionOf B L i)) (ℕ-discrete (bitAt (widthOf L) m (positionOf B L i)) 1)
     where
       go : Dec (i < B) → Dec (positionOf B L i ≡ 0) → Dec (widthOf L < positionOf B L i) → Dec (bitAt (widthOf L) m (positionOf B L i) ≡ 1) → (lookTwin L B m i ≡ unfit) ⊎ NodeIs L B m i
-      go (no h) d₁ d₂ d₃ = inl (simp (le-leb B i (omega arith)))
-      go (yes h) (yes z) d₂ d₃ = inl (simp (lt-leb B i h, eq-eqb _ _ z))
-      go (yes h) (no z) (yes k) d₃ = inl (simp (lt-leb B i h, ne-eqb _ _ z, lt-ltb _ _ k))
-      go (yes h) (no z) (no k) (yes o) = inl (simp (lt-leb B i h, ne-eqb _ _ z, le-ltb (widthOf L) (positionOf B L i) (omega arith), eq-eqb _ _ o))
+      go (no h) d₁ d₂ d₃ = inl (look-far (omega arith))
+      go (yes h) (yes z) d₂ d₃ = inl (look-none h refl z)
+      go (yes h) (no z) (yes k) d₃ = inl (look-wide h refl z k)
+      go (yes h) (no z) (no k) (yes o) = inl (look-again h refl z (omega arith) (eq-eqb _ _ o))
       go (yes h) (no z) (no k) (no o) = inr (record { below = h; from = omega arith; to = omega arith; new = omega arith })
 
 module _ (S L : List ℕ) (t : Tested) (r : ℕ) where
@@ -65,6 +91,16 @@ module _ (S L : List ℕ) (t : Tested) (r : ℕ) where
   pub leaf-on : (lent : Lent) → r ≢ 0 → bitAnd (signatureOf S r) (t .mask) ≡ t .edges → leafTwin S L t r lent ≡ leafOf lent (chainTwin (lent .blocks) S L (signatureOf S r) r)
   unfolding leafTwin
   leaf-on lent nz q = rw (ne-eqb r 0 nz, leafTwin, eq-eqb _ _ q)
+
+  -- the same, as the code takes it: s is the leaf's signature
+  module _ (lent : Lent) (nz : r ≢ 0) {s : ℕ} (at : s ≡ signatureOf S r) where
+    pub leaf-lost : bitAnd s (t .mask) ≢ t .edges → leafTwin S L t r lent ≡ failed
+    leaf-lost ne = leaf-off lent nz (λ e. ne (ap (λ (n : ℕ). bitAnd n (t .mask)) at ∙ e))
+
+    pub leaf-found : bitAnd s (t .mask) ≡ t .edges → (c : Chained) → c ≡ chainTwin (lent .blocks) S L s r → leafOf lent c ≡ leafTwin S L t r lent
+    leaf-found q c e =
+        ap (leafOf lent) (e ∙ ap (λ (n : ℕ). chainTwin (lent .blocks) S L n r) at)
+        ∙ sym (leaf-on lent nz (ap (λ (n : ℕ). bitAnd n (t .mask)) (sym at) ∙ q))
 
   pub walk-leaf : (u : ℕ) (lent : Lent) → r ≤ length S → walkTwin u S L t r lent ≡ leafTwin S L t r lent
   unfolding walkTwin

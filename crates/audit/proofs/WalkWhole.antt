@@ -1,14 +1,13 @@
 -- On a tree that is held and placed the walk says yes, where it is lent at least the tree's nodes and blocks: what it was lent
 -- beyond them is left.
 -- Assumes nothing.
-use Prim.Native.Nat.{ℕ, zero, suc, _+_, _-_, _^_, _≤_, _<_, max}
+use Prim.Native.Nat.{ℕ, zero, suc, _+_, _-_, _≤_}
 use native.Mathlib.Omega.{arith}
 use mathlib.Core.Path.{_≡_, refl, sym, _∙_, ap, subst}
 use mathlib.Core.Logic.{_≢_}
-use mathlib.Core.Bool.{Bool, true, false}
-use mathlib.Core.List.{List, [], _∷_, _++_}
+use mathlib.Core.Bool.{true}
+use mathlib.Core.List.{List, [], _∷_}
 use lib.Bits.{bitAnd}
-use lib.Dec.{eqb}
 use lib.ListN.{length, length-append}
 use borrow.Author.Tests.{eq-eqb, ne-eqb}
 use Rattle.model.specs.Tree.{Edge, edge}
@@ -18,7 +17,7 @@ use Rattle.tables.proofs.Trees.{depth, depth-root}
 use Rattle.audit.specs.declared.walk.Lent.{Lent}
 use Rattle.audit.specs.declared.walk.Part.{Part}
 use Rattle.audit.specs.declared.walk.Tested.{Tested}
-use Rattle.audit.specs.Audit.{pick, chainTwin, leafOf, thenRight, nodeLess, walkTwin, untestedAll, treeTwin}
+use Rattle.audit.specs.Audit.{leafOf, nodeLess, walkTwin, untestedAll, treeTwin}
 use Rattle.audit.proofs.ChainLaws.{From, chain-from, chain-whole}
 use Rattle.audit.proofs.PathLaws.{Carried, carried-root, left-edge, right-edge, carried-edge}
 use Rattle.audit.proofs.WalkLaws.{NodeIs, leaf-on, walk-leaf, walk-fork}

@@ -1,14 +1,13 @@
 -- Where the walk says yes, the links spell a tree that is placed below the path, and it used as many nodes and blocks as that tree has.
 -- Assumes nothing.
-use Prim.Native.Nat.{ℕ, zero, suc, _+_, _-_, _^_, _≤_, _<_}
+use Prim.Native.Nat.{ℕ, zero, suc, _+_, _-_, _≤_, _<_}
 use native.Mathlib.Decide.{decLt, ℕ-discrete}
 use native.Mathlib.Omega.{arith}
 use mathlib.Core.Path.{_≡_, refl, sym, _∙_, ap, subst}
 use mathlib.Core.Logic.{_⊎_, inl, inr, _≢_}
 use mathlib.Core.Bool.{Bool, true, false}
-use mathlib.Core.List.{List, [], _∷_, _++_, List·Memᴰ}
+use mathlib.Core.List.{List, [], _∷_, List·Memᴰ}
 use lib.Bits.{bitAnd}
-use lib.Dec.{eqb}
 use lib.ListN.{length, length-append}
 use borrow.Author.Tests.{eq-eqb, ne-eqb}
 use Rattle.model.specs.Tree.{Edge, edge, Untested, Agrees}
@@ -18,7 +17,7 @@ use Rattle.audit.specs.declared.chain.Chained.{Chained}
 use Rattle.audit.specs.declared.walk.Lent.{Lent}
 use Rattle.audit.specs.declared.walk.Part.{Part}
 use Rattle.audit.specs.declared.walk.Tested.{Tested}
-use Rattle.audit.specs.Audit.{pick, chainTwin, leafOf, leafTwin, unfit, lookTwin, thenRight, nodeLess, walkTwin, untestedAll, treeTwin}
+use Rattle.audit.specs.Audit.{chainTwin, leafOf, leafTwin, unfit, lookTwin, thenRight, nodeLess, walkTwin, untestedAll, treeTwin}
 use Rattle.audit.proofs.Picks.{no-bool}
 use Rattle.audit.proofs.ChainLaws.{From, from-chain, chain-yes}
 use Rattle.audit.proofs.PathLaws.{Carried, carried-root, left-edge, right-edge, carried-edge}

@@ -2,7 +2,10 @@
 ghost use mathlib.Core.Path.{_≡_};
 ghost use Prim.Native.Nat.{_<_};
 ghost use Rattle.audit.specs.Audit.{Fits, blockOk, stuck, chainTwin};
-use super::question::wide;
+use tables::rows::filed_of;
+use tables::rows::next_of;
+use tables::rows::signature_of;
+use tables::wide;
 
 // What a chain gave: whether it is fit, and the blocks left of those lent to it.
 pub struct Chained {
@@ -29,8 +32,8 @@ pub(crate) fn on_chain(signatures: &[u64], links: &[u32], signature: u64, block:
     if signatures.len() < block {
         return false;
     }
-    if links[2 * block + 4] == 1 {
-        return signatures[block - 1] == signature;
+    if filed_of(links, block) == 1 {
+        return signature_of(signatures, block) == signature;
     }
     false
 }
@@ -55,7 +58,7 @@ pub(crate) fn follow(
         if !on_chain(signatures, links, signature, block) {
             return no_chain();
         }
-        block = wide(links[2 * block + 3]);
+        block = wide(next_of(links, block));
         left -= 1;
     }
     Chained {

@@ -5,7 +5,9 @@ ghost use lib.ListN.{length};
 ghost use Rattle.model.specs.Limits.{mostBlocks};
 ghost use Rattle.model.specs.Tables.{linksOf, freeOf};
 ghost use Rattle.audit.specs.Audit.{freeOk, freeTwin};
-use super::question::wide;
+use tables::nodes::position_of;
+use tables::nodes::side_of;
+use tables::wide;
 
 // Whether the node may stand on the free chain.
 pub(crate) fn free_fits(links: &[u32], blocks: usize, node: usize) -> bool
@@ -18,9 +20,8 @@ pub(crate) fn free_fits(links: &[u32], blocks: usize, node: usize) -> bool
     if blocks <= node {
         return false;
     }
-    let row = 2 * blocks + 3 * node;
-    if links[row + 2] == 0 {
-        return links[row + 4] == 0;
+    if position_of(links, blocks, node) == 0 {
+        return side_of(links, blocks, node, 1) == 0;
     }
     false
 }
@@ -36,7 +37,7 @@ pub(crate) fn free_chain(links: &[u32], blocks: usize, many: u32) -> bool
         if !free_fits(links, blocks, node) {
             return false;
         }
-        node = wide(links[2 * blocks + 3 * node + 3]);
+        node = wide(side_of(links, blocks, node, 0));
         left -= 1;
     }
     node == 0

@@ -2,13 +2,12 @@
 mod answer;
 mod chain;
 mod free;
-mod question;
 mod rows;
 mod walk;
 
 ghost use Rattle.model.specs.Promises.{AuditPromise};
 use answer::sound;
-use question::tables_fit;
+use tables::front::tables_fit;
 
 // The audit: 4 where question 4 says no, else 0 where the tables are sound, else 11.
 pub fn audit(signatures: &[u64], links: &[u32]) -> u32

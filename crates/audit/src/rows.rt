@@ -4,6 +4,9 @@ ghost use mathlib.Core.Bool.{true};
 ghost use lib.ListN.{length};
 ghost use Rattle.model.specs.Sound.{filedUpTo};
 ghost use Rattle.audit.specs.Audit.{Fits, rowOk, rowsOk};
+use tables::rows::filed_of;
+use tables::rows::next_of;
+use tables::rows::signature_of;
 
 // What the rows gave: whether they are fit, and the number of filed blocks.
 pub struct Rows {
@@ -39,8 +42,10 @@ pub(crate) fn check_rows(signatures: &[u64], links: &[u32]) -> Rows
     let mut count: u32 = 0;
     while done < blocks {
         let block = done + 1;
-        let filed = links[2 * block + 4];
-        if !row_fits(signatures[done], links[2 * block + 3], filed, width) {
+        let signature = signature_of(signatures, block);
+        let next = next_of(links, block);
+        let filed = filed_of(links, block);
+        if !row_fits(signature, next, filed, width) {
             return Rows {
                 fit: false,
                 count: 0,

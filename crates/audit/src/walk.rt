@@ -7,6 +7,9 @@ ghost use Rattle.model.specs.Limits.{mostBlocks, widest};
 ghost use Rattle.model.specs.Tables.{linksOf, widthOf};
 ghost use Rattle.audit.specs.Audit.{Fits, failed, leafTwin, unfit, lookTwin, passedBy, walkTwin, treeTwin};
 use super::chain::follow;
+use tables::nodes::position_of;
+use tables::nodes::side_of;
+use tables::rows::signature_of;
 
 // The nodes, and the blocks on chains, that a walk may look at.
 pub struct Lent {
@@ -61,8 +64,7 @@ pub(crate) fn leaf(
     if reference == 0 {
         return no_part();
     }
-    let at = reference as usize - 1;
-    let signature = signatures[at];
+    let signature = signature_of(signatures, reference as usize);
     if signature & tested.mask == tested.edges {
         let chained = follow(signatures, links, signature, reference, lent.blocks);
         return Part {
@@ -95,9 +97,8 @@ pub(crate) fn look(links: &[u32], blocks: usize, mask: u64, node: usize) -> Node
     if blocks <= node {
         return no_node();
     }
-    let row = 2 * blocks + 3 * node;
     let width = links[0];
-    let position = links[row + 2];
+    let position = position_of(links, blocks, node);
     if position == 0 {
         return no_node();
     }
@@ -110,8 +111,8 @@ pub(crate) fn look(links: &[u32], blocks: usize, mask: u64, node: usize) -> Node
     let one: u64 = 1;
     Node {
         weight: one << (width - position),
-        left: links[row + 3],
-        right: links[row + 4],
+        left: side_of(links, blocks, node, 0),
+        right: side_of(links, blocks, node, 1),
     }
 }
 

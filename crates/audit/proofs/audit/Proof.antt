@@ -1,11 +1,9 @@
 -- `audit::audit` meets its contract: each answer is the definition's, which keeps the promise.
 -- Assumes nothing.
-use mathlib.Core.Path.{_≡_, sym, _∙_, subst}
-use mathlib.Core.List.{List}
+use mathlib.Core.Path.{sym, _∙_, subst}
 use borrow.Author.Tests.{not-true, not-false}
 use borrow.Author.Needs.{needs}
 use Rattle.model.specs.Promises.{AuditPromise}
-use Rattle.audit.proofs.QuestionLaws.{fits-yes}
 use Rattle.audit.proofs.Verdict.{refused, found-sound, found-unsound, promised}
 use Rattle.audit.proofs.audit.Statement.{statement}
 use Rattle.audit.proofs.audit.Tie as tie
@@ -14,16 +12,16 @@ tables-fit-requires : tie.Need-tables-fit-requires
 tables-fit-requires c κs = search needs
 
 returns : tie.Need-returns
-returns c = subst (AuditPromise _ _) (refused _ _ (sym (c .before .tables-fit .ensures) ∙ not-true _ (c .if1 .taken))) (promised _ _)
+returns c = subst (AuditPromise _ _) (refused _ _ (sym (c .before .tables-fit .ensures .0) ∙ not-true _ (c .if1 .taken))) (promised _ _)
 
 sound-requires : tie.Need-sound-requires
-sound-requires c κs = fits-yes _ _ (sym (c .before .tables-fit .ensures) ∙ not-false _ (c .if1 .left))
+sound-requires c κs = c .before .tables-fit .ensures .1 (not-false _ (c .if1 .left))
 
 returns-2 : tie.Need-returns-2
-returns-2 c = subst (AuditPromise _ _) (found-sound _ _ (sym (c .before .before .before .tables-fit .ensures) ∙ not-false _ (c .before .before .if1 .left)) (sym (c .before .sound .ensures) ∙ c .if2 .taken)) (promised _ _)
+returns-2 c = subst (AuditPromise _ _) (found-sound _ _ (sym (c .before .before .before .tables-fit .ensures .0) ∙ not-false _ (c .before .before .if1 .left)) (sym (c .before .sound .ensures) ∙ c .if2 .taken)) (promised _ _)
 
 returns-3 : tie.Need-returns-3
-returns-3 c = subst (AuditPromise _ _) (found-unsound _ _ (sym (c .before .before .before .tables-fit .ensures) ∙ not-false _ (c .before .before .if1 .left)) (sym (c .before .sound .ensures) ∙ c .if2 .left)) (promised _ _)
+returns-3 c = subst (AuditPromise _ _) (found-unsound _ _ (sym (c .before .before .before .tables-fit .ensures .0) ∙ not-false _ (c .before .before .if1 .left)) (sym (c .before .sound .ensures) ∙ c .if2 .left)) (promised _ _)
 
 pub audit-spec : {M : Type 1} → statement M
 audit-spec =

@@ -1,6 +1,6 @@
 -- `audit::answer::sound` meets its contract. Assumes nothing.
-use mathlib.Core.Path.{_≡_, refl, ap, sym, _∙_, subst}
-use Prim.Native.Nat.{ℕ, _+_, _-_, _*_, _^_, _≤_, _<_}
+use mathlib.Core.Path.{sym, _∙_}
+use Prim.Native.Nat.{_-_}
 use borrow.Author.Tests.{not-true, not-false}
 use Rattle.audit.proofs.AnswerLaws.{sound-rows, sound-count, sound-tree, sound-left, sound-free}
 use borrow.Author.Needs.{needs}

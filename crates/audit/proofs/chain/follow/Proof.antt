@@ -1,11 +1,11 @@
--- `audit::chain::follow` meets its contract. The invariant: the rest of the chain gives what the whole chain gives. Assumes nothing.
-use mathlib.Core.Path.{_≡_, refl, ap, sym, _∙_, subst}
-use Prim.Native.Nat.{ℕ, _+_, _-_, _*_, _^_, _≤_, _<_}
+-- `audit::chain::follow` meets its contract. The invariant: the rest of the chain gives what the whole chain gives.
+-- Assumes nothing.
 use native.Mathlib.Omega.{arith}
+use mathlib.Core.Path.{_≡_, refl, sym, _∙_, ap}
 use borrow.Author.Tests.{not-true, not-false}
+use borrow.Author.Needs.{needs}
 use Rattle.audit.specs.Audit.{chainTwin}
 use Rattle.audit.proofs.ChainLaws.{pos-ne, le-none, block-yes, chain-end, chain-none, chain-stop, chain-go}
-use borrow.Author.Needs.{needs}
 use Rattle.audit.proofs.chain.follow.Statement.{statement}
 use Rattle.audit.proofs.chain.follow.Tie as tie
 
@@ -33,17 +33,8 @@ no-chain-requires-2 c κs = search needs
 returns-2 : tie.Need-returns-2 Inv-loop μ-loop
 returns-2 c = c .no-chain2 .ensures ∙ sym (c .before .before .before .before .before .loop .inv ∙ chain-stop _ _ _ _ _ (pos-ne (c .before .before .before .before .loop-test .taken)) (sym (c .before .before .on-chain .ensures) ∙ not-true _ (c .before .if2 .taken)))
 
-mul-wide : tie.Need-mul-wide Inv-loop μ-loop
-mul-wide c = omega (arith, block-yes _ _ _ _ (sym (c .before .on-chain .ensures) ∙ not-false _ (c .if2 .left)))
-
-add-wide : tie.Need-add-wide Inv-loop μ-loop
-add-wide c = omega (arith, block-yes _ _ _ _ (sym (c .before .on-chain .ensures) ∙ not-false _ (c .if2 .left)))
-
-mul-wide-2 : tie.Need-mul-wide-2 Inv-loop μ-loop
-mul-wide-2 c = omega (arith, block-yes _ _ _ _ (sym (c .before .on-chain .ensures) ∙ not-false _ (c .if2 .left)))
-
-shared-slice-read-wide : tie.Need-shared-slice-read-wide Inv-loop μ-loop
-shared-slice-read-wide c = omega (arith, block-yes _ _ _ _ (sym (c .before .before .on-chain .ensures) ∙ not-false _ (c .before .if2 .left)))
+next-of-requires : tie.Need-next-of-requires Inv-loop μ-loop
+next-of-requires c κs = omega (arith, block-yes _ _ _ _ (sym (c .before .on-chain .ensures) ∙ not-false _ (c .if2 .left)))
 
 wide-requires : tie.Need-wide-requires Inv-loop μ-loop
 wide-requires c κs = search needs
@@ -55,7 +46,7 @@ loop-less : tie.Need-loop-less Inv-loop μ-loop
 loop-less c = search needs
 
 loop-again : tie.Need-loop-again Inv-loop μ-loop
-loop-again c = c .before .before .before .before .before .before .loop .inv ∙ chain-go _ _ _ _ _ (c .before .before .before .before .if1 .left) (pos-ne (c .before .before .before .before .before .loop-test .taken)) (sym (c .before .before .before .on-chain .ensures) ∙ not-false _ (c .before .before .if2 .left)) ∙ ap (chainTwin _ _ _ _) (sym (c .wide .ensures))
+loop-again c = c .before .before .before .before .before .before .loop .inv ∙ chain-go _ _ _ _ _ (c .before .before .before .before .if1 .left) (pos-ne (c .before .before .before .before .before .loop-test .taken)) (sym (c .before .before .before .on-chain .ensures) ∙ not-false _ (c .before .before .if2 .left)) ∙ ap (chainTwin _ _ _ _) (sym (c .wide .ensures ∙ c .before .next-of .ensures))
 
 returns-3 : tie.Need-returns-3 Inv-loop μ-loop
 returns-3 c = sym (c .before .loop .inv ∙ chain-end _ _ _ _ _ (le-none (c .loop-test .left)))
@@ -72,10 +63,7 @@ follow-spec =
     on-chain-requires
     no-chain-requires-2
     returns-2
-    mul-wide
-    add-wide
-    mul-wide-2
-    shared-slice-read-wide
+    next-of-requires
     wide-requires
     sub-left
     loop-less

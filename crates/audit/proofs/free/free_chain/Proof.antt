@@ -1,12 +1,12 @@
--- `audit::free::free_chain` meets its contract. The invariant: the rest of the chain gives what the whole chain gives. Assumes nothing.
-use mathlib.Core.Path.{_≡_, refl, ap, sym, _∙_, subst}
-use Prim.Native.Nat.{ℕ, _+_, _-_, _*_, _^_, _≤_, _<_}
+-- `audit::free::free_chain` meets its contract. The invariant: the rest of the chain gives what the whole chain gives.
+-- Assumes nothing.
 use native.Mathlib.Omega.{arith}
+use mathlib.Core.Path.{_≡_, sym, _∙_, ap}
 use borrow.Author.Tests.{not-true, not-false}
+use borrow.Author.Needs.{needs}
 use Rattle.model.specs.Tables.{freeOf}
 use Rattle.audit.specs.Audit.{freeTwin}
 use Rattle.audit.proofs.FreeLaws.{free-in, free-end, free-stop, free-go}
-use borrow.Author.Needs.{needs}
 use Rattle.audit.proofs.free.free_chain.Statement.{statement}
 use Rattle.audit.proofs.free.free_chain.Tie as tie
 
@@ -31,23 +31,8 @@ free-fits-requires c κs = search needs
 returns : tie.Need-returns Inv-loop μ-loop
 returns c = sym (c .before .before .before .loop .inv ∙ free-stop _ _ _ _ (c .before .before .loop-test .taken) (sym (c .before .free-fits .ensures) ∙ not-true _ (c .if1 .taken)))
 
-mul-wide : tie.Need-mul-wide Inv-loop μ-loop
-mul-wide c = omega (arith, free-in _ _ _ (sym (c .before .free-fits .ensures) ∙ not-false _ (c .if1 .left)))
-
-mul-wide-2 : tie.Need-mul-wide-2 Inv-loop μ-loop
-mul-wide-2 c = omega (arith, free-in _ _ _ (sym (c .before .free-fits .ensures) ∙ not-false _ (c .if1 .left)))
-
-add-wide : tie.Need-add-wide Inv-loop μ-loop
-add-wide c = omega (arith, free-in _ _ _ (sym (c .before .free-fits .ensures) ∙ not-false _ (c .if1 .left)))
-
-add-wide-2 : tie.Need-add-wide-2 Inv-loop μ-loop
-add-wide-2 c = omega (arith, free-in _ _ _ (sym (c .before .free-fits .ensures) ∙ not-false _ (c .if1 .left)))
-
-mul-wide-3 : tie.Need-mul-wide-3 Inv-loop μ-loop
-mul-wide-3 c = omega (arith, free-in _ _ _ (sym (c .before .free-fits .ensures) ∙ not-false _ (c .if1 .left)))
-
-shared-slice-read-wide-2 : tie.Need-shared-slice-read-wide-2 Inv-loop μ-loop
-shared-slice-read-wide-2 c = omega (arith, free-in _ _ _ (sym (c .before .before .free-fits .ensures) ∙ not-false _ (c .before .if1 .left)))
+side-of-requires : tie.Need-side-of-requires Inv-loop μ-loop
+side-of-requires c κs = (c .before .before .before .before .before .before .before .pre .2, free-in _ _ _ (sym (c .before .free-fits .ensures) ∙ not-false _ (c .if1 .left)), omega arith)
 
 wide-requires-2 : tie.Need-wide-requires-2 Inv-loop μ-loop
 wide-requires-2 c κs = search needs
@@ -59,7 +44,7 @@ loop-less : tie.Need-loop-less Inv-loop μ-loop
 loop-less c = search needs
 
 loop-again : tie.Need-loop-again Inv-loop μ-loop
-loop-again c = c .before .before .before .before .before .loop .inv ∙ free-go _ _ _ _ (c .before .before .before .before .loop-test .taken) (sym (c .before .before .before .free-fits .ensures) ∙ not-false _ (c .before .before .if1 .left)) ∙ ap (freeTwin _ _ _) (sym (c .wide2 .ensures))
+loop-again c = c .before .before .before .before .before .loop .inv ∙ free-go _ _ _ _ (c .before .before .before .before .loop-test .taken) (sym (c .before .before .before .free-fits .ensures) ∙ not-false _ (c .before .before .if1 .left)) ∙ ap (freeTwin _ _ _) (sym (c .wide2 .ensures ∙ c .before .side-of .ensures))
 
 returns-2 : tie.Need-returns-2 Inv-loop μ-loop
 returns-2 c = sym (c .before .loop .inv ∙ free-end _ _ _ _ (c .loop-test .left))
@@ -75,12 +60,7 @@ free-chain-spec =
     loop-holds
     free-fits-requires
     returns
-    mul-wide
-    mul-wide-2
-    add-wide
-    add-wide-2
-    mul-wide-3
-    shared-slice-read-wide-2
+    side-of-requires
     wide-requires-2
     sub-left
     loop-less

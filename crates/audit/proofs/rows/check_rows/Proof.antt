@@ -1,15 +1,16 @@
--- `audit::rows::check_rows` meets its contract. The invariant: the rows so far are fit, and the count is of them. Assumes nothing.
-use mathlib.Core.Path.{_≡_, refl, ap, sym, _∙_, subst}
-use Prim.Native.Nat.{ℕ, _+_, _-_, _*_, _^_, _≤_, _<_}
+-- `audit::rows::check_rows` meets its contract. The invariant: the rows so far are fit, and the count is of them.
+-- Assumes nothing.
+use Prim.Native.Nat.{_-_, _≤_}
 use native.Mathlib.Omega.{arith}
-use mathlib.Core.Bool.{true, false}
+use mathlib.Core.Path.{_≡_, refl, sym, _∙_, ap}
+use mathlib.Core.Bool.{true}
 use lib.ListN.{length}
 use borrow.Author.Tests.{not-true, not-false}
+use borrow.Author.Needs.{needs}
 use Rattle.model.specs.Sound.{filedUpTo}
 use Rattle.audit.specs.Audit.{rowsOk}
 use Rattle.audit.proofs.Picks.{no-bool}
 use Rattle.audit.proofs.RowLaws.{row-yes, rows-step, rows-fail, filed-step}
-use borrow.Author.Needs.{needs}
 use Rattle.audit.proofs.rows.check_rows.Statement.{statement}
 use Rattle.audit.proofs.rows.check_rows.Tie as tie
 
@@ -29,41 +30,20 @@ loop-holds c = (refl, refl, search needs, search needs)
 add-block : tie.Need-add-block Inv-loop μ-loop
 add-block c = search needs
 
-mul-filed : tie.Need-mul-filed Inv-loop μ-loop
-mul-filed c = search needs
+signature-of-requires : tie.Need-signature-of-requires Inv-loop μ-loop
+signature-of-requires c κs = search needs
 
-add-filed : tie.Need-add-filed Inv-loop μ-loop
-add-filed c = search needs
+next-of-requires : tie.Need-next-of-requires Inv-loop μ-loop
+next-of-requires c κs = search needs
 
-mul-filed-2 : tie.Need-mul-filed-2 Inv-loop μ-loop
-mul-filed-2 c = search needs
-
-shared-slice-read-filed : tie.Need-shared-slice-read-filed Inv-loop μ-loop
-shared-slice-read-filed c = search needs
-
-mul-row-fits : tie.Need-mul-row-fits Inv-loop μ-loop
-mul-row-fits c = search needs
-
-shared-slice-read-row-fits : tie.Need-shared-slice-read-row-fits Inv-loop μ-loop
-shared-slice-read-row-fits c = search needs
-
-mul-row-fits-2 : tie.Need-mul-row-fits-2 Inv-loop μ-loop
-mul-row-fits-2 c = search needs
-
-add-row-fits : tie.Need-add-row-fits Inv-loop μ-loop
-add-row-fits c = search needs
-
-mul-row-fits-3 : tie.Need-mul-row-fits-3 Inv-loop μ-loop
-mul-row-fits-3 c = search needs
-
-shared-slice-read-row-fits-2 : tie.Need-shared-slice-read-row-fits-2 Inv-loop μ-loop
-shared-slice-read-row-fits-2 c = search needs
+filed-of-requires : tie.Need-filed-of-requires Inv-loop μ-loop
+filed-of-requires c κs = search needs
 
 row-fits-requires : tie.Need-row-fits-requires Inv-loop μ-loop
 row-fits-requires c κs = search needs
 
 returns : tie.Need-returns Inv-loop μ-loop
-returns c = (sym (rows-fail _ _ _ _ (c .before .before .before .before .before .loop-test .taken) (c .before .before .before .before .before .before .loop .inv .0) (sym (c .before .row-fits .ensures) ∙ not-true _ (c .if1 .taken))), λ e. no-bool e)
+returns c = (sym (rows-fail _ _ _ (c .before .before .before .before .before .before .loop .inv .0) (c .before .before .before .before .signature-of .ensures) (c .before .before .before .next-of .ensures) (c .before .before .filed-of .ensures) _ (c .before .before .before .before .before .loop-test .taken) (sym (c .before .row-fits .ensures) ∙ not-true _ (c .if1 .taken))), λ e. no-bool e)
 
 add-count : tie.Need-add-count Inv-loop μ-loop
 add-count c = omega (arith, row-yes _ _ _ _ (sym (c .before .row-fits .ensures) ∙ not-false _ (c .if1 .left)))
@@ -72,7 +52,7 @@ loop-less : tie.Need-loop-less Inv-loop μ-loop
 loop-less c = search needs
 
 loop-again : tie.Need-loop-again Inv-loop μ-loop
-loop-again c = (rows-step _ _ _ _ (c .before .before .before .before .before .before .loop .inv .0) (sym (c .before .row-fits .ensures) ∙ not-false _ (c .if1 .left)), omega (arith, filed-step (c .before .before .before .before .before .before .before .before .before .before .args .links .now) (c .before .before .before .before .before .before .loop .done)), omega (arith, row-yes _ _ _ _ (sym (c .before .row-fits .ensures) ∙ not-false _ (c .if1 .left))), search needs)
+loop-again c = (rows-step _ _ _ (c .before .before .before .before .before .before .loop .inv .0) (c .before .before .before .before .signature-of .ensures) (c .before .before .before .next-of .ensures) (c .before .before .filed-of .ensures) _ (sym (c .before .row-fits .ensures) ∙ not-false _ (c .if1 .left)), omega (arith, filed-step (c .before .before .before .before .before .before .before .before .before .before .args .links .now) (c .before .before .before .before .before .before .loop .done), c .before .before .filed-of .ensures), omega (arith, row-yes _ _ _ _ (sym (c .before .row-fits .ensures) ∙ not-false _ (c .if1 .left))), search needs)
 
 returns-2 : tie.Need-returns-2 Inv-loop μ-loop
 returns-2 c = let q : c .before .loop .done ≡ length (c .before .before .before .before .before .args .signatures .now) = omega (arith, c .before .loop .inv .3, c .loop-test .left) in (sym (ap (rowsOk _ _) (sym q) ∙ c .before .loop .inv .0), λ e. c .before .loop .inv .1 ∙ ap (filedUpTo _) q)
@@ -86,16 +66,9 @@ check-rows-spec =
     shared-slice-read-width
     loop-holds
     add-block
-    mul-filed
-    add-filed
-    mul-filed-2
-    shared-slice-read-filed
-    mul-row-fits
-    shared-slice-read-row-fits
-    mul-row-fits-2
-    add-row-fits
-    mul-row-fits-3
-    shared-slice-read-row-fits-2
+    signature-of-requires
+    next-of-requires
+    filed-of-requires
     row-fits-requires
     returns
     add-count

@@ -1,5 +1,5 @@
 -- `audit::rows::row_fits` meets its contract. Assumes nothing.
-use mathlib.Core.Path.{_≡_, refl, ap, sym, _∙_, subst}
+use mathlib.Core.Path.{sym, _∙_}
 use borrow.Author.Tests.{eq-eqb, ne-eqb, not-true, not-false}
 use Rattle.audit.specs.Audit.{rowOk}
 use borrow.Author.Needs.{needs}

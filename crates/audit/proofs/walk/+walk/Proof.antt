@@ -6,7 +6,7 @@ use borrow.Author.Needs.{needs}
 use borrow.Author.Tests.{not-true, not-false}
 use borrow.Fn.Kinds.{In, Out}
 use borrow.Fn.PlainCycle.{Measures, is, falls, and}
-use mathlib.Core.Path.{_≡_, sym, _∙_}
+use mathlib.Core.Path.{sym, _∙_}
 use Rattle.audit.proofs.WalkLaws.{walk-leaf, walk-out, walk-done, walk-bad, walk-stop, walk-both}
 use Rattle.audit.proofs.walk.walk.Reads as walk
 use Rattle.audit.proofs.walk.walk.Kinds as walk-kinds

@@ -1,5 +1,4 @@
 -- `audit::walk::whole_tree` meets its contract. Assumes nothing.
-use mathlib.Core.Path.{_≡_, refl, ap, sym, _∙_, subst}
 use borrow.Author.Tests.{eq-eqb, ne-eqb}
 use Rattle.audit.specs.Audit.{treeTwin}
 use borrow.Author.Needs.{needs}
