@@ -75,13 +75,13 @@ module _ (F : ℕ) (sigs g after links : List ℕ) (p k i t : ℕ) (h : Known F 
   after-blocks : Blocks B after
   after-blocks = blocks-same B g after (same-sym after g (h .halved .same)) (h .group .blocks)
 
-  both : Sizes F sigs (h .group .below) g
+  both : Sizes F sigs g
   both = sizes F sigs (h .group .below) g (h .group .apart) (h .many)
 
-  same-low : Same low (half F sigs (h .group .below) 0 g)
+  same-low : Same low (half F sigs 0 g)
   same-low = rw (← (h .halved .best)) (h .halved .left)
 
-  same-high : Same high (half F sigs (h .group .below) 1 g)
+  same-high : Same high (half F sigs 1 g)
   same-high = rw (← (h .halved .best)) (h .halved .right)
 
   -- both halves have some
@@ -89,14 +89,14 @@ module _ (F : ℕ) (sigs g after links : List ℕ) (p k i t : ℕ) (h : Known F 
   some =
       let l = both .left in
       let r = both .right in
-      let n = same-length low (half F sigs (h .group .below) 0 g) same-low in
-      let m = same-length high (half F sigs (h .group .below) 1 g) same-high in
+      let n = same-length low (half F sigs 0 g) same-low in
+      let m = same-length high (half F sigs 1 g) same-high in
       omega (arith, low-length, high-length)
 
   -- and are groups
-  half-group : (e : ℕ) (l : List ℕ) → e ≤ 1 → Same l (half F sigs (h .group .below) e g) → Blocks B l → Group F sigs l
+  half-group : (e : ℕ) (l : List ℕ) → e ≤ 1 → Same l (half F sigs e g) → Blocks B l → Group F sigs l
   half-group e l q s b =
-      let a = apart-same sigs (half F sigs (h .group .below) e g) l (same-sym l (half F sigs (h .group .below) e g) s) (apart-half F sigs (h .group .below) e g q (h .group .apart)) in
+      let a = apart-same sigs (half F sigs e g) l (same-sym l (half F sigs e g) s) (apart-half F sigs e g q (h .group .apart)) in
       record { from = h .group .from; to = h .group .to; blocks = b; below = h .group .below; apart = a }
 
   low-group : Group F sigs low
@@ -182,12 +182,12 @@ module _ (F : ℕ) (sigs g after links : List ℕ) (p k i t : ℕ) (h : Known F 
       let b = h .group .below in
       let q = some in
       let n : length g ≡ suc (length g - 1) = omega (arith, h .many) in
-      let hl : List ℕ = half F sigs b 0 g in
-      let hr : List ℕ = half F sigs b 1 g in
+      let hl : List ℕ = half F sigs 0 g in
+      let hr : List ℕ = half F sigs 1 g in
       let nl : length hl ≡ k = sym (same-length low hl same-low) ∙ low-length in
       let nr : length hr ≡ length g - k = sym (same-length high hr same-high) ∙ high-length in
-      let al = apart-half F sigs b 0 g (omega arith) (h .group .apart) in
-      let ar = apart-half F sigs b 1 g (omega arith) (h .group .apart) in
+      let al = apart-half F sigs 0 g (omega arith) (h .group .apart) in
+      let ar = apart-half F sigs 1 g (omega arith) (h .group .apart) in
       let wl : groupNodes (length low) F sigs low (i + 1) ≡ groupNodes (length g - 1) F sigs hl (i + 1) = nodes-same F sigs b (length low) (length g - 1) low hl (i + 1) (low-group .apart) al same-low (omega arith) (omega arith) in
       let wr : groupNodes (length high) F sigs high (i + k) ≡ groupNodes (length g - 1) F sigs hr (i + k) = nodes-same F sigs b (length high) (length g - 1) high hr (i + k) (high-group .apart) ar same-high (omega arith) (omega arith) in
       let rl : left ≡ groupReference B hl (i + 1) = er ∙ left-reference ∙ reference-same B low hl (i + 1) same-low in
@@ -199,11 +199,11 @@ module _ (F : ℕ) (sigs g after links : List ℕ) (p k i t : ℕ) (h : Known F 
       let c1 = nodes-length F sigs b (length low) low (i + 1) (low-group .apart) (omega arith) in
       let a1 : positionAt B (i + 1) ≡ positionAt B i + length three = omega arith in
       let a2 : positionAt B (i + k) ≡ positionAt B i + length three + length w1 = omega (arith, low-length) in
-      let step : groupNodes (length g) F sigs g i ≡ three ++ w1 ++ w2 = ap (λ (m : ℕ). groupNodes m F sigs g i) n ∙ nodes-step F sigs b (length g - 1) g i (h .many) ∙ (cc) in
+      let step : groupNodes (length g) F sigs g i ≡ three ++ w1 ++ w2 = ap (λ (m : ℕ). groupNodes m F sigs g i) n ∙ nodes-step F sigs (length g - 1) g i (h .many) ∙ (cc) in
       let s1 = sets-append links (positionAt B i) three (w1 ++ w2) in
       let s2 = sets-append (sets links (positionAt B i) three) (positionAt B i + length three) w1 w2 in
       cc
 
 -- a group of no or one block leaves the links
-pub few : (F : ℕ) (sigs g : List ℕ) (i : ℕ) (links : List ℕ) → Group F sigs g → length g < 2 → links ≡ sets links (positionAt (length sigs) i) (groupNodes (length g) F sigs g i)
-few F sigs g i links G h = ap (sets links (positionAt (length sigs) i)) (sym (nodes-few F sigs (G .below) (length g) g i (omega arith)))
+pub few : (F : ℕ) (sigs g : List ℕ) (i : ℕ) (links : List ℕ) → length g < 2 → links ≡ sets links (positionAt (length sigs) i) (groupNodes (length g) F sigs g i)
+few F sigs g i links h = ap (sets links (positionAt (length sigs) i)) (sym (nodes-few F sigs (length g) g i (omega arith)))

@@ -13,7 +13,8 @@ use Rattle.model.specs.Tables.{positionAt, signatureOf}
 use Rattle.model.specs.Rebuild.{groupReference, groupNodes}
 use Rattle.model.proofs.Members.{total, Same, same-length}
 use Rattle.split.specs.Split.{Apart, Below, Halved, referenceTo}
-use Rattle.split.proofs.Sides.{side-same, sides-length}
+use Rattle.model.proofs.Build.{side-same}
+use Rattle.split.proofs.Sides.{sides-length}
 use Rattle.split.proofs.Best.{best-same, splits, apart-side}
 
 -- two runs of stores
@@ -44,31 +45,22 @@ reference-same B (x ∷ []) (y ∷ z ∷ b) i h = absurd (omega (arith, same-len
 reference-same B (x ∷ w ∷ a) (y ∷ []) i h = absurd (omega (arith, same-length (x ∷ w ∷ a) (y ∷ []) h))
 reference-same B (x ∷ w ∷ a) (y ∷ z ∷ b) i h = refl
 
-module _ (F : ℕ) (sigs : List ℕ) (below : Below F sigs) where
-  -- the side e of a group at its best position
-  abbrev pub half : ℕ → List ℕ → List ℕ
-  half e g = side F (signatureOf sigs) (bestPosition F (signatureOf sigs) g) e g
+-- the side e of a group at its best position
+abbrev pub half : ℕ → List ℕ → ℕ → List ℕ → List ℕ
+half F sigs e g = side F (signatureOf sigs) (bestPosition F (signatureOf sigs) g) e g
 
-  -- a group's sizes where it is split
-  pub record Sizes (g : List ℕ) : Type 0 where
-    pub left : 0 < length (half 0 g)
-    pub right : 0 < length (half 1 g)
-    pub both : length (half 0 g) + length (half 1 g) ≡ length g
-
-  pub sizes : (g : List ℕ) → Apart sigs g → 2 ≤ length g → Sizes g
-  sizes g d h = let s = splits F sigs below g d h in record { left = s .0; right = s .1; both = sides-length F (signatureOf sigs) (bestPosition F (signatureOf sigs) g) g }
-
-  pub apart-half : (e : ℕ) (g : List ℕ) → e ≤ 1 → Apart sigs g → Apart sigs (half e g)
+module _ (F : ℕ) (sigs : List ℕ) where
+  pub apart-half : (e : ℕ) (g : List ℕ) → e ≤ 1 → Apart sigs g → Apart sigs (half F sigs e g)
   apart-half e g = apart-side F sigs (bestPosition F (signatureOf sigs) g) e g
 
-  pub half-same : (e : ℕ) (a b : List ℕ) → Same a b → Same (half e a) (half e b)
+  half-same : (e : ℕ) (a b : List ℕ) → Same a b → Same (half F sigs e a) (half F sigs e b)
   half-same e a b s = rw (best-same F (signatureOf sigs) a b s) (side-same F (signatureOf sigs) (bestPosition F (signatureOf sigs) b) e a b s)
 
   -- one split
   pub nodes-step : (m : ℕ) (g : List ℕ) (i : ℕ) → 2 ≤ length g
       → groupNodes (suc m) F sigs g i
-      ≡ bestPosition F (signatureOf sigs) g ∷ groupReference (length sigs) (half 0 g) (i + 1) ∷ groupReference (length sigs) (half 1 g) (i + length (half 0 g))
-      ∷ groupNodes m F sigs (half 0 g) (i + 1) ++ groupNodes m F sigs (half 1 g) (i + length (half 0 g))
+      ≡ bestPosition F (signatureOf sigs) g ∷ groupReference (length sigs) (half F sigs 0 g) (i + 1) ∷ groupReference (length sigs) (half F sigs 1 g) (i + length (half F sigs 0 g))
+      ∷ groupNodes m F sigs (half F sigs 0 g) (i + 1) ++ groupNodes m F sigs (half F sigs 1 g) (i + length (half F sigs 0 g))
   unfolding groupNodes
   nodes-step m [] i h = absurd (omega arith)
   nodes-step m (b ∷ []) i h = absurd (omega arith)
@@ -82,6 +74,34 @@ module _ (F : ℕ) (sigs : List ℕ) (below : Below F sigs) where
   nodes-few (suc m) (b ∷ []) i h = refl
   nodes-few (suc m) (b ∷ c ∷ g) i h = absurd (omega arith)
 
+-- a group's sizes where it is split
+pub record Sizes (F : ℕ) (sigs g : List ℕ) : Type 0 where
+  pub left : 0 < length (half F sigs 0 g)
+  pub right : 0 < length (half F sigs 1 g)
+  pub both : length (half F sigs 0 g) + length (half F sigs 1 g) ≡ length g
+
+module _ (F : ℕ) (sigs : List ℕ) (below : Below F sigs) where
+  pub sizes : (g : List ℕ) → Apart sigs g → 2 ≤ length g → Sizes F sigs g
+  sizes g d h = let s = splits F sigs below g d h in record { left = s .0; right = s .1; both = sides-length F (signatureOf sigs) (bestPosition F (signatureOf sigs) g) g }
+
+  -- what holds of one block, and of a group if of its halves, holds of every group of blocks with nodes from i on
+  pub group-induction : (P : ℕ → List ℕ → ℕ → Type 0) → ((m x i : ℕ) → P (suc m) (x ∷ []) i)
+      → ((m : ℕ) (g : List ℕ) (i : ℕ) → 2 ≤ length g → Sizes F sigs g → P m (half F sigs 0 g) (i + 1) → P m (half F sigs 1 g) (i + length (half F sigs 0 g)) → P (suc m) g i)
+      → (m : ℕ) (g : List ℕ) (i : ℕ) → Apart sigs g → 1 ≤ length g → length g ≤ m → P m g i
+  group-induction P one more zero g i d s n = absurd (omega arith)
+  group-induction P one more (suc m) [] i d s n = absurd (omega arith)
+  group-induction P one more (suc m) (x ∷ []) i d s n = one m x i
+  group-induction P one more (suc m) (x ∷ y ∷ t) i d s n =
+      let g : List ℕ = x ∷ y ∷ t in
+      let two : 2 ≤ length g = omega arith in
+      let z = sizes g d two in
+      let zl = z .left in
+      let zr = z .right in
+      let zb = z .both in
+      more m g i two z
+      (group-induction P one more m (half F sigs 0 g) (i + 1) (apart-half F sigs 0 g (omega arith) d) (omega arith) (omega arith))
+      (group-induction P one more m (half F sigs 1 g) (i + length (half F sigs 0 g)) (apart-half F sigs 1 g (omega arith) d) (omega arith) (omega arith))
+
   pub nodes-length : (m : ℕ) (g : List ℕ) (i : ℕ) → Apart sigs g → length g ≤ m → length (groupNodes m F sigs g i) ≡ 3 * (length g - 1)
   unfolding groupNodes
   nodes-length zero g i d n = omega arith
@@ -93,17 +113,17 @@ module _ (F : ℕ) (sigs : List ℕ) (below : Below F sigs) where
       let sl = s .left in
       let sr = s .right in
       let sb = s .both in
-      let a = nodes-length m (half 0 g) (i + 1) (apart-half 0 g (omega arith) d) (omega arith) in
-      let z = nodes-length m (half 1 g) (i + length (half 0 g)) (apart-half 1 g (omega arith) d) (omega arith) in
-      omega (arith, length-append (groupNodes m F sigs (half 0 g) (i + 1)) (groupNodes m F sigs (half 1 g) (i + length (half 0 g))))
+      let a = nodes-length m (half F sigs 0 g) (i + 1) (apart-half F sigs 0 g (omega arith) d) (omega arith) in
+      let z = nodes-length m (half F sigs 1 g) (i + length (half F sigs 0 g)) (apart-half F sigs 1 g (omega arith) d) (omega arith) in
+      omega (arith, length-append (groupNodes m F sigs (half F sigs 0 g) (i + 1)) (groupNodes m F sigs (half F sigs 1 g) (i + length (half F sigs 0 g))))
 
   -- the words depend neither on the order nor on the bound of the depth, where that is enough
   pub nodes-same : (m n : ℕ) (a b : List ℕ) (i : ℕ) → Apart sigs a → Apart sigs b → Same a b → length a ≤ m → length b ≤ n → groupNodes m F sigs a i ≡ groupNodes n F sigs b i
   unfolding groupNodes
-  nodes-same zero n a b i da db s p q = sym (nodes-few n b i (omega (arith, same-length a b s)))
-  nodes-same (suc m) zero a b i da db s p q = nodes-few (suc m) a i (omega (arith, same-length a b s))
-  nodes-same (suc m) (suc n) [] b i da db s p q = sym (nodes-few (suc n) b i (omega (arith, same-length [] b s)))
-  nodes-same (suc m) (suc n) (x ∷ []) b i da db s p q = sym (nodes-few (suc n) b i (omega (arith, same-length (x ∷ []) b s)))
+  nodes-same zero n a b i da db s p q = sym (nodes-few F sigs n b i (omega (arith, same-length a b s)))
+  nodes-same (suc m) zero a b i da db s p q = nodes-few F sigs (suc m) a i (omega (arith, same-length a b s))
+  nodes-same (suc m) (suc n) [] b i da db s p q = sym (nodes-few F sigs (suc n) b i (omega (arith, same-length [] b s)))
+  nodes-same (suc m) (suc n) (x ∷ []) b i da db s p q = sym (nodes-few F sigs (suc n) b i (omega (arith, same-length (x ∷ []) b s)))
   nodes-same (suc m) (suc n) (x ∷ y ∷ t) b i da db s p q =
       let a : List ℕ = x ∷ y ∷ t in
       let e = same-length a b s in
@@ -116,14 +136,14 @@ module _ (F : ℕ) (sigs : List ℕ) (below : Below F sigs) where
       let ubl = ub .left in
       let ubr = ub .right in
       let ubb = ub .both in
-      let s0 = half-same 0 a b s in
-      let s1 = half-same 1 a b s in
-      let e0 : length (half 0 a) ≡ length (half 0 b) = same-length (half 0 a) (half 0 b) s0 in
-      let e1 : length (half 1 a) ≡ length (half 1 b) = same-length (half 1 a) (half 1 b) s1 in
+      let s0 = half-same F sigs 0 a b s in
+      let s1 = half-same F sigs 1 a b s in
+      let e0 : length (half F sigs 0 a) ≡ length (half F sigs 0 b) = same-length (half F sigs 0 a) (half F sigs 0 b) s0 in
+      let e1 : length (half F sigs 1 a) ≡ length (half F sigs 1 b) = same-length (half F sigs 1 a) (half F sigs 1 b) s1 in
       let ep = best-same F (signatureOf sigs) a b s in
-      let r0 = reference-same (length sigs) (half 0 a) (half 0 b) (i + 1) s0 in
-      let r1 = reference-same (length sigs) (half 1 a) (half 1 b) (i + length (half 0 b)) s1 in
-      let w0 = nodes-same m n (half 0 a) (half 0 b) (i + 1) (apart-half 0 a (omega arith) da) (apart-half 0 b (omega arith) db) s0 (omega arith) (omega arith) in
-      let w1 = nodes-same m n (half 1 a) (half 1 b) (i + length (half 0 b)) (apart-half 1 a (omega arith) da) (apart-half 1 b (omega arith) db) s1 (omega arith) (omega arith) in
-      let st = nodes-step n b i two in
+      let r0 = reference-same (length sigs) (half F sigs 0 a) (half F sigs 0 b) (i + 1) s0 in
+      let r1 = reference-same (length sigs) (half F sigs 1 a) (half F sigs 1 b) (i + length (half F sigs 0 b)) s1 in
+      let w0 = nodes-same m n (half F sigs 0 a) (half F sigs 0 b) (i + 1) (apart-half F sigs 0 a (omega arith) da) (apart-half F sigs 0 b (omega arith) db) s0 (omega arith) (omega arith) in
+      let w1 = nodes-same m n (half F sigs 1 a) (half F sigs 1 b) (i + length (half F sigs 0 b)) (apart-half F sigs 1 a (omega arith) da) (apart-half F sigs 1 b (omega arith) db) s1 (omega arith) (omega arith) in
+      let st = nodes-step F sigs n b i two in
       cc

@@ -1,35 +1,23 @@
 -- The two sides of a list at a position. An entry is on one side, by its bit, so every sum over the list is the sum over its sides.
 -- Assumes nothing.
 use Prim.Native.Nat.{ℕ, zero, suc, _+_, _≤_, _<_, min}
-use native.Mathlib.Decide.{ℕ-discrete}
 use native.Mathlib.Omega.{arith}
 use mathlib.Core.Path.{_≡_, refl, sym, _∙_, ap, ap₂}
 use mathlib.Core.Logic.{_⊎_, inl, inr, _≢_}
-use mathlib.Core.Bool.{true, false}
-use mathlib.Core.List.{List, [], _∷_, List·Memᴰ, List·Memᴰ·head, List·Memᴰ·tail, List·Memᴰ·cases-cons, List·Memᴰ·not-nil}
+use mathlib.Core.List.{List, [], _∷_, List·Memᴰ}
 use lib.Dec.{eqb}
 use lib.ListN.{length, getD, take, drop, length-drop}
 use lib.Seq.{getD-take, getD-drop, length-take-le}
-use borrow.Author.Tests.{eq-eqb, ne-eqb}
+use borrow.Author.Tests.{eq-eqb, ne-eqb, eqb-true}
 use Rattle.model.specs.Basics.{keep}
 use Rattle.model.specs.Signature.{bitAt}
 use Rattle.model.specs.Build.{side, smaller}
 use Rattle.model.proofs.Bits.{bit-cases}
+use Rattle.model.proofs.Keep.{gate, keep-yes, keep-no, keep-in, in-keep, keep-total}
+use Rattle.model.proofs.Build.{side-same}
 use Rattle.model.proofs.Members.{total, Same, total-one, same-length}
 use Rattle.split.specs.Split.{Parted}
 use Rattle.split.proofs.Sums.{total-cong, total-zero, total-split}
-
--- v where the bit is e, else 0
-unfoldable gate : ℕ → ℕ → ℕ → ℕ
-gate e bit v = elim (eqb bit e) [ true ↦ v | false ↦ 0 ]
-
-gate-in : (e bit v : ℕ) → bit ≡ e → gate e bit v ≡ v
-unfolding gate
-gate-in e bit v h = rw (eq-eqb bit e h, gate)
-
-gate-out : (e bit v : ℕ) → bit ≢ e → gate e bit v ≡ 0
-unfolding gate
-gate-out e bit v h = rw (ne-eqb bit e h, gate)
 
 module _ (F : ℕ) (of : ℕ → ℕ) (p : ℕ) where
   abbrev bit : ℕ → ℕ
@@ -37,26 +25,10 @@ module _ (F : ℕ) (of : ℕ → ℕ) (p : ℕ) where
 
   -- an entry is on the side of its bit
   side-in : (e x : ℕ) (l : List ℕ) → bit x ≡ e → side F of p e (x ∷ l) ≡ x ∷ side F of p e l
-  unfolding keep
-  side-in e x l h = rw (eq-eqb (bit x) e h, keep)
+  side-in e x l h = keep-yes (λ x. eqb (bit x) e) x l (eq-eqb (bit x) e h)
 
   side-out : (e x : ℕ) (l : List ℕ) → bit x ≢ e → side F of p e (x ∷ l) ≡ side F of p e l
-  unfolding keep
-  side-out e x l h = rw (ne-eqb (bit x) e h, keep)
-
-  -- a sum over a side
-  side-total : (e : ℕ) (f : ℕ → ℕ) (l : List ℕ) → total f (side F of p e l) ≡ total (λ x. gate e (bit x) (f x)) l
-  unfolding keep
-  side-total e f [] = refl
-  side-total e f (x ∷ l) = go (ℕ-discrete (bit x) e) (side-total e f l)
-    where
-      go : Dec (bit x ≡ e) → total f (side F of p e l) ≡ total (λ x. gate e (bit x) (f x)) l → total f (side F of p e (x ∷ l)) ≡ gate e (bit x) (f x) + total (λ x. gate e (bit x) (f x)) l
-      go (yes h) ih = omega (arith, ap (total f) (side-in e x l h), gate-in e (bit x) (f x) h)
-      go (no h) ih = omega (arith, ap (total f) (side-out e x l h), gate-out e (bit x) (f x) h)
-
-  -- the sides of lists with the same entries
-  pub side-same : (e : ℕ) (a b : List ℕ) → Same a b → Same (side F of p e a) (side F of p e b)
-  side-same e a b s f = side-total e f a ∙ s (λ x. gate e (bit x) (f x)) ∙ sym (side-total e f b)
+  side-out e x l h = keep-no (λ x. eqb (bit x) e) x l (ne-eqb (bit x) e h)
 
   -- the two sides together
   pub sides-total : (f : ℕ → ℕ) (l : List ℕ) → total f (side F of p 0 l) + total f (side F of p 1 l) ≡ total f l
@@ -85,35 +57,14 @@ module _ (F : ℕ) (of : ℕ → ℕ) (p : ℕ) where
   pub smaller-same : (a b : List ℕ) → Same a b → smaller F of p a ≡ smaller F of p b
   unfolding smaller
   smaller-same a b s =
-      ap₂ min (same-length (side F of p 0 a) (side F of p 0 b) (side-same 0 a b s)) (same-length (side F of p 1 a) (side F of p 1 b) (side-same 1 a b s))
+      ap₂ min (same-length (side F of p 0 a) (side F of p 0 b) (side-same F of p 0 a b s)) (same-length (side F of p 1 a) (side F of p 1 b) (side-same F of p 1 a b s))
 
   -- members of a side
   pub side-member : (e : ℕ) (l : List ℕ) (b : ℕ) → List·Memᴰ b (side F of p e l) → List·Memᴰ b l × (bit b ≡ e)
-  unfolding keep
-  side-member e [] b m = absurd (List·Memᴰ·not-nil m)
-  side-member e (x ∷ l) b m = go (ℕ-discrete (bit x) e) (side-member e l b)
-    where
-      late : List·Memᴰ b l × (bit b ≡ e) → List·Memᴰ b (x ∷ l) × (bit b ≡ e)
-      late r = (List·Memᴰ·tail (r .0), r .1)
-
-      here : bit x ≡ e → (b ≡ x) ⊎ List·Memᴰ b (side F of p e l) → (List·Memᴰ b (side F of p e l) → List·Memᴰ b l × (bit b ≡ e)) → List·Memᴰ b (x ∷ l) × (bit b ≡ e)
-      here h (inl q) ih = (List·Memᴰ·head q, ap bit q ∙ h)
-      here h (inr n) ih = late (ih n)
-
-      go : Dec (bit x ≡ e) → (List·Memᴰ b (side F of p e l) → List·Memᴰ b l × (bit b ≡ e)) → List·Memᴰ b (x ∷ l) × (bit b ≡ e)
-      go (yes h) ih = here h (List·Memᴰ·cases-cons (rw (side-in e x l h) at m)) ih
-      go (no h) ih = late (ih (rw (side-out e x l h) at m))
+  side-member e l b m = let r = keep-in (λ x. eqb (bit x) e) l b m in (r .0, eqb-true (bit b) e (r .1))
 
   pub side-has : (e : ℕ) (l : List ℕ) (b : ℕ) → List·Memᴰ b l → bit b ≡ e → List·Memᴰ b (side F of p e l)
-  unfolding keep
-  side-has e [] b m q = absurd (List·Memᴰ·not-nil m)
-  side-has e (x ∷ l) b m q = go (List·Memᴰ·cases-cons m) (ℕ-discrete (bit x) e) (λ n. side-has e l b n q)
-    where
-      go : (b ≡ x) ⊎ List·Memᴰ b l → Dec (bit x ≡ e) → (List·Memᴰ b l → List·Memᴰ b (side F of p e l)) → List·Memᴰ b (side F of p e (x ∷ l))
-      go (inl h) (yes u) ih = rw (side-in e x l u) (List·Memᴰ·head h)
-      go (inl h) (no u) ih = absurd (u (sym (ap bit h) ∙ q))
-      go (inr n) (yes u) ih = rw (side-in e x l u) (List·Memᴰ·tail (ih n))
-      go (inr n) (no u) ih = rw (side-out e x l u) (ih n)
+  side-has e l b m q = in-keep (λ x. eqb (bit x) e) l b m (eq-eqb (bit b) e q)
 
 -- a list parted in place has its sides there
 module _ (F : ℕ) (of : ℕ → ℕ) (p : ℕ) (before after : List ℕ) (k : ℕ) (h : Parted F of p before after k) where
@@ -130,14 +81,14 @@ module _ (F : ℕ) (of : ℕ → ℕ) (p : ℕ) (before after : List ℕ) (k : �
 
   pub parted-left : Same (take k after) (side F of p 0 before)
   parted-left f =
-      let g : ℕ → ℕ = λ x. gate 0 (bitAt F (of x) p) (f x) in
-      let a : total f (take k after) ≡ total g (take k after) = total-cong f g (take k after) (λ i q. sym (gate-in 0 _ _ (low-at i q))) in
-      let b : total g (drop k after) ≡ 0 = total-cong g (λ _. 0) (drop k after) (λ i q. gate-out 0 _ _ (λ z. let e = high-at i q in omega arith)) ∙ total-zero (drop k after) in
-      omega (arith, total-split g k after, h .same g, side-total F of p 0 f before)
+      let g : ℕ → ℕ = λ x. gate (eqb (bitAt F (of x) p) 0) (f x) in
+      let a : total f (take k after) ≡ total g (take k after) = total-cong f g (take k after) (λ i q. rw (low-at i q)) in
+      let b : total g (drop k after) ≡ 0 = total-cong g (λ _. 0) (drop k after) (λ i q. rw (high-at i q)) ∙ total-zero (drop k after) in
+      omega (arith, total-split g k after, h .same g, keep-total (λ x. eqb (bitAt F (of x) p) 0) f before)
 
   pub parted-right : Same (drop k after) (side F of p 1 before)
   parted-right f =
-      let g : ℕ → ℕ = λ x. gate 1 (bitAt F (of x) p) (f x) in
-      let a : total f (drop k after) ≡ total g (drop k after) = total-cong f g (drop k after) (λ i q. sym (gate-in 1 _ _ (high-at i q))) in
-      let b : total g (take k after) ≡ 0 = total-cong g (λ _. 0) (take k after) (λ i q. gate-out 1 _ _ (λ z. let e = low-at i q in omega arith)) ∙ total-zero (take k after) in
-      omega (arith, total-split g k after, h .same g, side-total F of p 1 f before)
+      let g : ℕ → ℕ = λ x. gate (eqb (bitAt F (of x) p) 1) (f x) in
+      let a : total f (drop k after) ≡ total g (drop k after) = total-cong f g (drop k after) (λ i q. rw (high-at i q)) in
+      let b : total g (take k after) ≡ 0 = total-cong g (λ _. 0) (take k after) (λ i q. rw (low-at i q)) ∙ total-zero (take k after) in
+      omega (arith, total-split g k after, h .same g, keep-total (λ x. eqb (bitAt F (of x) p) 1) f before)

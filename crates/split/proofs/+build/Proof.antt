@@ -58,7 +58,9 @@ known t c =
     }
 
 returns : At build-lts.Need-returns
-returns t c = few _ _ _ _ _ (c .before .before .before .before .pre .1 .0) (c .if1 .taken)
+returns t c =
+    let a = c .before .before .before .before .args in
+    few (a .width) (a .signatures .now) (a .group .now) (a .first) (a .links .now) (c .if1 .taken)
 
 split-requires : At build-lts.Need-split-requires
 split-requires t c κs = let g = c .before .before .before .before .before .pre .1 .0 in (g .blocks, (g .from, g .to))
