@@ -1,1 +1,1 @@
-// Rebuild: the tree made anew.
+// Rebuild.

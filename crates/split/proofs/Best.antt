@@ -1,22 +1,22 @@
--- The best position: it is one of 1 to F, and no position's smaller side is larger. So it splits two or more distinct signatures:
--- where its smaller side were empty all would be, and two of the signatures would agree at every position.
+-- The best position splits two or more distinct signatures: no position's smaller side is larger than its own, so where that were
+-- empty all would be, and two of the signatures would agree at every position.
 -- Assumes nothing.
 use Prim.Native.Nat.{ℕ, zero, suc, _+_, _-_, _≤_, _<_, zero-le}
-use native.Mathlib.Decide.{ℕ-discrete}
 use native.Mathlib.Nat.{eq-or-lt-of-le}
 use native.Mathlib.Omega.{arith}
 use mathlib.Core.Path.{_≡_, refl, sym, _∙_, ap}
-use mathlib.Core.Logic.{_⊎_, inl, inr, ⊎-elim}
-use mathlib.Core.Bool.{Bool, true, false}
+use mathlib.Core.Logic.{⊎-elim}
+use mathlib.Core.Bool.{true, false}
 use mathlib.Core.List.{List, [], _∷_}
 use lib.Dec.{ltb, eqb}
 use lib.ListN.{length, getD}
-use borrow.Author.Tests.{ltb-true, ltb-false, lt-ltb, le-ltb, eq-eqb}
+use borrow.Author.Tests.{lt-ltb, le-ltb, eq-eqb}
 use Rattle.model.specs.Basics.{upFrom, keep}
 use Rattle.model.specs.Signature.{bitAt}
 use Rattle.model.specs.Build.{side, smaller, bestOf, bestPosition}
 use Rattle.model.specs.Tables.{signatureOf}
 use Rattle.model.proofs.Bits.{bit-below}
+use Rattle.model.proofs.Best.{best-position}
 use Rattle.model.proofs.Members.{total, Same}
 use Rattle.signature.proofs.Bits.{bits-equal}
 use Rattle.split.specs.Split.{hits, Apart, Below}
@@ -31,50 +31,6 @@ module _ (F : ℕ) (of : ℕ → ℕ) (xs : List ℕ) where
   pub best-no : (best j : ℕ) (ps : List ℕ) → smaller F of j xs ≤ smaller F of best xs → bestOf F of xs best (j ∷ ps) ≡ bestOf F of xs best ps
   unfolding bestOf
   best-no best j ps h = rw (le-ltb (smaller F of best xs) (smaller F of j xs) h, bestOf)
-
-  -- the better of two goes on
-  better : (P : ℕ → Type 0) (best j : ℕ) (ps : List ℕ) → (smaller F of best xs < smaller F of j xs → P (bestOf F of xs j ps)) → (smaller F of j xs ≤ smaller F of best xs → P (bestOf F of xs best ps)) → P (bestOf F of xs best (j ∷ ps))
-  better P best j ps f g = go (ltb (smaller F of best xs) (smaller F of j xs)) refl
-    where
-      go : (t : Bool) → ltb (smaller F of best xs) (smaller F of j xs) ≡ t → P (bestOf F of xs best (j ∷ ps))
-      go true e = let h = ltb-true (smaller F of best xs) (smaller F of j xs) e in rw (best-yes best j ps h) (f h)
-      go false e = let h = ltb-false (smaller F of best xs) (smaller F of j xs) e in rw (best-no best j ps (omega arith)) (g (omega arith))
-
-  abbrev Largest : ℕ → ℕ → ℕ → ℕ → Type 0
-  Largest best n j q = (smaller F of best xs ≤ smaller F of q xs) × ((i : ℕ) → j ≤ i → i < j + n → smaller F of i xs ≤ smaller F of q xs)
-
-  later : (best n j q : ℕ) → smaller F of best xs ≤ smaller F of q xs → smaller F of j xs ≤ smaller F of q xs → Largest best n (suc j) q → Largest best (suc n) j q
-  later best n j q a b r = (a, λ i lo hi. go i lo hi (ℕ-discrete i j))
-    where
-      go : (i : ℕ) → j ≤ i → i < j + suc n → Dec (i ≡ j) → smaller F of i xs ≤ smaller F of q xs
-      go i lo hi (yes e) = rw e b
-      go i lo hi (no e) = r .1 i (omega arith) (omega arith)
-
-  pub largest : (n j best : ℕ) → Largest best n j (bestOf F of xs best (upFrom n j))
-  unfolding upFrom bestOf
-  largest zero j best = (omega arith, λ i lo hi. absurd (omega arith))
-  largest (suc n) j best =
-      better (Largest best (suc n) j) best j (upFrom n (suc j))
-      (λ h. let r = largest n (suc j) j in later best n j (bestOf F of xs j (upFrom n (suc j))) (omega (arith, r .0)) (r .0) (omega (arith, r .0), r .1))
-      (λ h. let r = largest n (suc j) best in later best n j (bestOf F of xs best (upFrom n (suc j))) (r .0) (omega (arith, r .0)) r)
-
-  within : (n j best : ℕ) → 1 ≤ best → best ≤ j → 1 ≤ j → (1 ≤ bestOf F of xs best (upFrom n (suc j))) × (bestOf F of xs best (upFrom n (suc j)) ≤ j + n)
-  unfolding upFrom bestOf
-  within zero j best a b c = (a, omega arith)
-  within (suc n) j best a b c =
-      better (λ q. (1 ≤ q) × (q ≤ j + suc n)) best (suc j) (upFrom n (suc (suc j)))
-      (λ h. let r = within n (suc j) (suc j) (omega arith) (omega arith) (omega arith) in (r .0, omega (arith, r .1)))
-      (λ h. let r = within n (suc j) best a (omega arith) (omega arith) in (r .0, omega (arith, r .1)))
-
-  pub best-within : 1 ≤ F → (1 ≤ bestPosition F of xs) × (bestPosition F of xs ≤ F)
-  best-within h = let r = within (F - 1) 1 1 (omega arith) (omega arith) (omega arith) in (r .0, omega (arith, r .1))
-
-  pub best-largest : (i : ℕ) → 1 ≤ i → i ≤ F → smaller F of i xs ≤ smaller F of (bestPosition F of xs) xs
-  best-largest i lo hi = let r = largest (F - 1) 2 1 in go (ℕ-discrete i 1) (r .0) (r .1 i)
-    where
-      go : Dec (i ≡ 1) → smaller F of 1 xs ≤ smaller F of (bestPosition F of xs) xs → (2 ≤ i → i < 2 + (F - 1) → smaller F of i xs ≤ smaller F of (bestPosition F of xs) xs) → smaller F of i xs ≤ smaller F of (bestPosition F of xs) xs
-      go (yes e) a b = rw e a
-      go (no e) a b = b (omega arith) (omega arith)
 
 -- it depends on the entries alone
 bestOf-same : (F : ℕ) (of : ℕ → ℕ) (a b : List ℕ) → Same a b → (ps : List ℕ) (best : ℕ) → bestOf F of a best ps ≡ bestOf F of b best ps
@@ -112,7 +68,7 @@ module _ (F : ℕ) (sigs : List ℕ) (below : Below F sigs) where
   unfolding Below
   none-split x y l e =
       bits-equal F (signatureOf sigs x) (signatureOf sigs y) (below (x - 1)) (below (y - 1)) (λ j lo hi.
-      agree F (signatureOf sigs) j x y l (omega (arith, best-largest F (signatureOf sigs) (x ∷ y ∷ l) j lo hi)))
+      agree F (signatureOf sigs) j x y l (omega (arith, best-position F (signatureOf sigs) (x ∷ y ∷ l) (omega arith) .most j lo hi)))
 
   -- both sides have some
   pub splits : (g : List ℕ) → Apart sigs g → 2 ≤ length g

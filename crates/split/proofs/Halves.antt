@@ -8,14 +8,15 @@ use mathlib.Core.List.{List, [], _∷_, _++_}
 use lib.ListN.{length, getD, take, drop, length-append, length-drop}
 use lib.Seq.{sets, length-sets, length-take-le, drop-at, take-all, getD-take, getD-drop}
 use Rattle.model.specs.Build.{bestPosition}
-use Rattle.model.specs.Tables.{linksOf, positionAt, signatureOf}
+use Rattle.model.specs.Tables.{linksOf, positionAt, leftAt, rightAt, signatureOf}
+use Rattle.model.specs.Stores.{_↤_, stores}
 use Rattle.model.specs.Rebuild.{groupReference, groupNodes}
 use Rattle.model.proofs.Members.{Same, same-length}
 use Rattle.split.specs.Split.{Blocks, Apart, Group, Parted, Halved, referenceTo}
 use Rattle.split.proofs.Sums.{same-sym, same-trans, blocks-same, blocks-take, blocks-drop}
 use Rattle.split.proofs.Sides.{parted-left, parted-right}
 use Rattle.split.proofs.Best.{apart-same}
-use Rattle.split.proofs.Nodes.{sets-append, reference-by, reference-same, half, Sizes, sizes, apart-half, nodes-step, nodes-length, nodes-same, nodes-few}
+use Rattle.split.proofs.Nodes.{sets-append, node-stores, reference-by, reference-same, half, Sizes, sizes, apart-half, nodes-step, nodes-length, nodes-same, nodes-few}
 
 -- a list parted at its best position
 pub halve : (F : ℕ) (of : ℕ → ℕ) (before after : List ℕ) (p k : ℕ) → p ≡ bestPosition F of before → Parted F of p before after k → Halved F of before after p k
@@ -174,7 +175,7 @@ module _ (F : ℕ) (sigs g after links : List ℕ) (p k i t : ℕ) (h : Known F 
   -- the words at the end
   pub finish : (left right : ℕ) (l0 l1 l2 : List ℕ)
       → left ≡ referenceTo k (getD after 0 0) (B + i + 1) → right ≡ referenceTo (length g - k) (getD after k 0) (B + i + k)
-      → l0 ≡ sets links (positionAt B i) (p ∷ left ∷ right ∷ [])
+      → l0 ≡ stores links ((positionAt B i ↤ p) ∷ (leftAt B i ↤ left) ∷ (rightAt B i ↤ right) ∷ [])
       → l1 ≡ sets l0 (positionAt B (i + 1)) (groupNodes (length low) F sigs low (i + 1))
       → l2 ≡ sets l1 (positionAt B (i + k)) (groupNodes (length high) F sigs high (i + k))
       → l2 ≡ sets links (positionAt B i) (groupNodes (length g) F sigs g i)
@@ -199,6 +200,7 @@ module _ (F : ℕ) (sigs g after links : List ℕ) (p k i t : ℕ) (h : Known F 
       let c1 = nodes-length F sigs b (length low) low (i + 1) (low-group .apart) (omega arith) in
       let a1 : positionAt B (i + 1) ≡ positionAt B i + length three = omega arith in
       let a2 : positionAt B (i + k) ≡ positionAt B i + length three + length w1 = omega (arith, low-length) in
+      let z0 : l0 ≡ sets links (positionAt B i) three = e0 ∙ node-stores B links i p left right in
       let step : groupNodes (length g) F sigs g i ≡ three ++ w1 ++ w2 = ap (λ (m : ℕ). groupNodes m F sigs g i) n ∙ nodes-step F sigs (length g - 1) g i (h .many) ∙ (cc) in
       let s1 = sets-append links (positionAt B i) three (w1 ++ w2) in
       let s2 = sets-append (sets links (positionAt B i) three) (positionAt B i + length three) w1 w2 in

@@ -9,7 +9,8 @@ use lib.ListN.{length, getD, set, take, drop, length-append, length-drop}
 use lib.Seq.{sets, getD-take, getD-drop, length-take-le}
 use Rattle.model.specs.Signature.{bitAt}
 use Rattle.model.specs.Build.{side, bestPosition}
-use Rattle.model.specs.Tables.{positionAt, signatureOf}
+use Rattle.model.specs.Tables.{positionAt, leftAt, rightAt, signatureOf}
+use Rattle.model.specs.Stores.{_↤_, stores}
 use Rattle.model.specs.Rebuild.{groupReference, groupNodes}
 use Rattle.model.proofs.Members.{total, Same, same-length}
 use Rattle.split.specs.Split.{Apart, Below, Halved, referenceTo}
@@ -22,11 +23,11 @@ pub sets-append : (l : List ℕ) (a : ℕ) (xs ys : List ℕ) → sets l a (xs +
 sets-append l a [] ys = let e : a + 0 ≡ a = omega arith in rw e refl
 sets-append l a (x ∷ xs) ys = let e : a + suc (length xs) ≡ suc a + length xs = omega arith in rw e (sets-append (set l a x) (suc a) xs ys)
 
--- three stores, one after the other
-pub three-stores : (l : List ℕ) (a x y z : ℕ) → set (set (set l (a + 2) x) (a + 3) y) (a + 4) z ≡ sets l (a + 2) (x ∷ y ∷ z ∷ [])
-three-stores l a x y z =
-    let e : a + 3 ≡ suc (a + 2) = omega arith in
-    let f : a + 4 ≡ suc (suc (a + 2)) = omega arith in
+-- a node's three stores, one after the other
+pub node-stores : (B : ℕ) (l : List ℕ) (i p x y : ℕ) → stores l ((positionAt B i ↤ p) ∷ (leftAt B i ↤ x) ∷ (rightAt B i ↤ y) ∷ []) ≡ sets l (positionAt B i) (p ∷ x ∷ y ∷ [])
+node-stores B l i p x y =
+    let e : leftAt B i ≡ suc (positionAt B i) = omega arith in
+    let f : rightAt B i ≡ suc (suc (positionAt B i)) = omega arith in
     rw (e, f) refl
 
 -- the reference to a group, by its size and its first block

@@ -1,8 +1,7 @@
 // A group of head blocks, one for each of its distinct signatures, becomes a tree: it is parted in place at the position where the
 // smaller side is largest, its node is written, and each half of it is lent to a call of its own.
 ghost use mathlib.Core.Path.{_≡_};
-ghost use mathlib.Core.List.{[], _∷_};
-ghost use Prim.Native.Nat.{ℕ, _+_, _*_, _^_, _<_, _≤_};
+ghost use Prim.Native.Nat.{_+_, _^_, _<_, _≤_};
 ghost use lib.ListN.{length};
 ghost use lib.Seq.{sets};
 ghost use Rattle.model.specs.Signature.{bitAt};
@@ -10,6 +9,8 @@ ghost use Rattle.model.specs.Build.{side, smaller, bestPosition};
 ghost use Rattle.model.specs.Tables.{linksOf, positionAt, signatureOf};
 ghost use Rattle.model.specs.Rebuild.{groupNodes};
 ghost use Rattle.split.specs.Split.{Blocks, Group, Parted, Halved, referenceTo};
+use tables::nodes::set_node;
+use tables::rows::signature_of;
 
 // The bit of a block's signature at a position: 0 or 1.
 fn block_bit(signatures: &[u64], block: u32, width: u32, position: u32) -> u32
@@ -17,7 +18,7 @@ fn block_bit(signatures: &[u64], block: u32, width: u32, position: u32) -> u32
     requires { ⌜ (1 ≤ position) × (position ≤ width) × (width ≤ 64) ⌝ }
     ensures { λ r. ⌜ (r ≡ bitAt width (signatureOf (now (signatures .entry)) block) position) × (r ≤ 1) ⌝ }
 {
-    signature::bit(signatures[block as usize - 1], width, position)
+    signature::bit(signature_of(signatures, block as usize), width, position)
 }
 
 // How many blocks of the group have the bit set.
@@ -123,19 +124,6 @@ pub fn reference(size: usize, head: u32, node: usize) -> u32
     node as u32
 }
 
-// Writes node i: its position, left and right.
-pub fn write_node(links: &mut [u32], blocks: usize, i: usize, position: u32, left: u32, right: u32)
-    requires { ⌜ blocks ≤ 65535 ⌝ }
-    requires { ⌜ (1 ≤ i) × (i < blocks) ⌝ }
-    requires { ⌜ length (now links) ≡ linksOf blocks ⌝ }
-    ensures { λ _. ⌜ now (links .exit) ≡ sets (now (links .entry)) (positionAt blocks i) (position ∷ left ∷ right ∷ []) ⌝ }
-{
-    let at = 2 * blocks + 3 * i;
-    links[at + 2] = position;
-    links[at + 3] = left;
-    links[at + 4] = right;
-}
-
 // Writes the nodes of the group's tree from node `first` on: a node, all of its left side, then its right.
 pub fn build(signatures: &[u64], links: &mut [u32], group: &mut [u32], width: u32, first: usize)
     requires { ⌜ Group width (now signatures) (now group) ⌝ }
@@ -152,7 +140,7 @@ pub fn build(signatures: &[u64], links: &mut [u32], group: &mut [u32], width: u3
     let blocks = signatures.len();
     let left = reference(low, group[0], blocks + first + 1);
     let right = reference(size - low, group[low], blocks + first + low);
-    write_node(links, blocks, first, cut.position, left, right);
+    set_node(links, blocks, first, cut.position, left, right);
     build(signatures, links, &mut group[..low], width, first + 1);
     build(signatures, links, &mut group[low..], width, first + low);
 }

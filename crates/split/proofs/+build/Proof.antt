@@ -14,7 +14,7 @@ use Rattle.split.proofs.build.Kinds as build-kinds
 use Rattle.split.proofs.+build.Lts-build as build-lts
 use Rattle.split.proofs.reference.Reads as reference-reads
 use Rattle.split.proofs.split.Reads as split-reads
-use Rattle.split.proofs.write_node.Reads as write-node-reads
+use Rattle.tables.proofs.nodes.set_node.Reads as set-node-reads
 use Rattle.split.proofs.+build.{statement}
 use Rattle.split.proofs.+build.Tie.{close}
 
@@ -29,7 +29,7 @@ build-below t = and 3 build-kinds.ps (falls 3 build-kinds.ps _<_ μ-build t) bui
 
 -- what the calls ask and give where the measure is t
 abbrev calls : ℕ → build-lts.Claims
-calls t = (split-reads.Asked, split-reads.Learnt, reference-reads.Asked, reference-reads.Learnt, write-node-reads.Asked, write-node-reads.Learnt, build-below t, build.Post)
+calls t = (split-reads.Asked, split-reads.Learnt, reference-reads.Asked, reference-reads.Learnt, set-node-reads.Asked, set-node-reads.Learnt, build-below t, build.Post)
 
 -- a need at each measure
 abbrev At : (build-lts.Claims → In 3 build-lts.ps → Out 3 build-lts.ps build-lts.r → Type 0) → Type 0
@@ -135,11 +135,11 @@ reference-requires-2 t c κs =
     let q = some _ _ _ _ _ _ _ _ _ K in
     omega (arith, K .small, K .node)
 
-write-node-requires : At build-lts.Need-write-node-requires
-write-node-requires t c κs =
+set-node-requires : At build-lts.Need-set-node-requires
+set-node-requires t c κs =
     let K = known t (c .before .before .before .before) in
     let q = some _ _ _ _ _ _ _ _ _ K in
-    (K .small, (omega (arith, K .node), K .room))
+    (K .room, omega (arith, K .node))
 
 slice-relend-prefix-build : At build-lts.Need-slice-relend-prefix-build
 slice-relend-prefix-build t c = known t (c .before .before .before .before .before .before .before .before) .halved .fits
@@ -155,7 +155,7 @@ add-build t c =
     omega (arith, K .small, K .node)
 
 build-requires : At build-lts.Need-build-requires
-build-requires t c κs = left-asks _ _ _ _ _ _ _ _ _ (known t (c .before .before .before .before .before .before .before .before .before)) (c .before .before .before .before .write-node .last .0) (c .before .before .before .before .write-node .kept .0)
+build-requires t c κs = left-asks _ _ _ _ _ _ _ _ _ (known t (c .before .before .before .before .before .before .before .before .before)) (c .before .before .before .before .set-node .last .0) (c .before .before .before .before .set-node .kept .0)
 
 mul-build : At build-lts.Need-mul-build
 mul-build t c =
@@ -190,10 +190,10 @@ add-build-2 t c =
 
 build-requires-2 : At build-lts.Need-build-requires-2
 build-requires-2 t c κs =
-    right-asks _ _ _ _ _ _ _ _ _ (known t (c .before .before .before .before .before .before .before .before .before .before .before .before .before .before .before .before)) (c .before .before .before .before .before .before .build .last .1 .1 .0) (c .before .before .before .before .before .before .build .kept .1 .1 .0) (c .before .before .before .before .before .before .build .last .1 .0) (c .before .before .before .before .before .before .build .kept .1 .0 ∙ c .before .before .before .before .before .before .before .before .before .before .before .write-node .kept .0)
+    right-asks _ _ _ _ _ _ _ _ _ (known t (c .before .before .before .before .before .before .before .before .before .before .before .before .before .before .before .before)) (c .before .before .before .before .before .before .build .last .1 .1 .0) (c .before .before .before .before .before .before .build .kept .1 .1 .0) (c .before .before .before .before .before .before .build .last .1 .0) (c .before .before .before .before .before .before .build .kept .1 .0 ∙ c .before .before .before .before .before .before .before .before .before .before .before .set-node .kept .0)
 
 same-length : At build-lts.Need-same-length
-same-length t c = c .before .before .before .before .build2 .kept .1 .0 ∙ c .before .before .before .before .before .before .before .before .before .before .before .build .kept .1 .0 ∙ c .before .before .before .before .before .before .before .before .before .before .before .before .before .before .before .before .write-node .kept .0
+same-length t c = c .before .before .before .before .build2 .kept .1 .0 ∙ c .before .before .before .before .before .before .before .before .before .before .before .build .kept .1 .0 ∙ c .before .before .before .before .before .before .before .before .before .before .before .before .before .before .before .before .set-node .kept .0
 
 same-length-2 : At build-lts.Need-same-length-2
 same-length-2 t c =
@@ -205,8 +205,8 @@ returns-2 t c =
     let one = c .before .before .before .before .before .before .before .before .before .before .before .build in
     let two = c .before .before .before .before .build2 in
     let e = rest _ _ _ _ _ _ _ _ _ K (one .last .1 .1 .0) (one .kept .1 .1 .0) in
-    finish _ _ _ _ _ _ _ _ _ K (c .before .before .before .before .before .before .before .before .before .before .before .before .before .before .before .before .before .before .before .before .reference .result) (c .before .before .before .before .before .before .before .before .before .before .before .before .before .before .before .before .before .before .reference2 .result) (c .before .before .before .before .before .before .before .before .before .before .before .before .before .before .before .before .write-node .last .0) (one .last .1 .0) (two .last .1 .0)
-    (c .before .before .before .before .before .before .before .before .before .before .before .before .before .before .before .before .before .before .before .before .reference .ensures) (c .before .before .before .before .before .before .before .before .before .before .before .before .before .before .before .before .before .before .reference2 .ensures) (c .before .before .before .before .before .before .before .before .before .before .before .before .before .before .before .before .write-node .ensures) (one .ensures) (rw e at (two .ensures))
+    finish _ _ _ _ _ _ _ _ _ K (c .before .before .before .before .before .before .before .before .before .before .before .before .before .before .before .before .before .before .before .before .reference .result) (c .before .before .before .before .before .before .before .before .before .before .before .before .before .before .before .before .before .before .reference2 .result) (c .before .before .before .before .before .before .before .before .before .before .before .before .before .before .before .before .set-node .last .0) (one .last .1 .0) (two .last .1 .0)
+    (c .before .before .before .before .before .before .before .before .before .before .before .before .before .before .before .before .before .before .before .before .reference .ensures) (c .before .before .before .before .before .before .before .before .before .before .before .before .before .before .before .before .before .before .reference2 .ensures) (c .before .before .before .before .before .before .before .before .before .before .before .before .before .before .before .before .set-node .ensures) (one .ensures) (rw e at (two .ensures))
 
 pub +build-spec : {M : Type 1} → statement M
 +build-spec = close μ-build λ t. build-lts.spec (calls t) (build-at t) build.Post
@@ -222,7 +222,7 @@ pub +build-spec : {M : Type 1} → statement M
     (add-reference-3 t)
     (add-reference-4 t)
     (reference-requires-2 t)
-    (write-node-requires t)
+    (set-node-requires t)
     (slice-relend-prefix-build t)
     (slice-aggregate-build t)
     (add-build t)

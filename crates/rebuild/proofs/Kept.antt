@@ -1,0 +1,112 @@
+-- What Rebuild does to sound tables, said of `rebuildLinks`: they stay sound; their tree is made anew from the stored signatures and
+-- depends on the set of these alone; width, count, rows and so the ledger stay; nodes are numbered in order, and the rest are free.
+-- Assumes nothing.
+use Prim.Native.Nat.{ℕ, zero, suc, _+_, _-_, _≤_, _<_, max}
+use native.Mathlib.Omega.{arith}
+use mathlib.Core.Path.{_≡_, refl, sym, _∙_, ap, ap₂, subst}
+use mathlib.Core.Bool.{true, false}
+use mathlib.Core.List.{List, [], _∷_}
+use lib.Dec.{eqb}
+use lib.ListN.{length}
+use Rattle.model.specs.Basics.{upFrom}
+use Rattle.model.specs.Tree.{signatures}
+use Rattle.model.specs.Build.{build}
+use Rattle.model.specs.Tables.{nextAt, filedAt, widthOf, toldBlocks, rootOf, countOf, nextOf, filedOf, signatureOf, treeFrom, treeOf}
+use Rattle.model.specs.Sound.{nodesIn, SoundAt, Sound}
+use Rattle.model.specs.Rebuild.{headsOf, rebuildLinks}
+use Rattle.model.specs.Ledger.{Entry, unfiled, pair, entryIn, entriesFrom, ledgerOf, isStored, stored}
+use Rattle.model.proofs.Members.{Same, same-members, once-distinct, in-once, once-in, in-has, has-in}
+use Rattle.model.proofs.Build.{build-same}
+use Rattle.tables.proofs.Trees.{tree-of-sound}
+use Rattle.tables.proofs.Stored.{stored-leaves}
+use Rattle.tables.proofs.Unique.{tree-one, free-list-one}
+use Rattle.rebuild.proofs.Laid.{laid-long, laid-width, laid-told, laid-count, laid-row}
+use Rattle.rebuild.proofs.Rebuilt.{Made, rebuilt, all-below, heads-group}
+
+-- what stays: the length, words 0, 1 and 4, and the rows
+pub record Unchanged (B : ℕ) (links after : List ℕ) : Type 0 where
+  pub long : length after ≡ length links
+  pub width : widthOf after ≡ widthOf links
+  pub told : toldBlocks after ≡ toldBlocks links
+  pub count : countOf after ≡ countOf links
+  pub next : (b : ℕ) → 1 ≤ b → b ≤ B → nextOf after b ≡ nextOf links b
+  pub filed : (b : ℕ) → 1 ≤ b → b ≤ B → filedOf after b ≡ filedOf links b
+
+-- the entries of blocks whose filed words are the same
+entry-same : (sigs L L′ : List ℕ) (b : ℕ) → filedOf L′ b ≡ filedOf L b → entryIn sigs L′ b ≡ entryIn sigs L b
+unfolding entryIn
+entry-same sigs L L′ b e = let entry : ℕ → Entry = λ x. elim (eqb x 0) [ true ↦ unfiled | false ↦ pair (signatureOf sigs b) ] in ap entry e
+
+entries-same : (sigs L L′ : List ℕ) (n b : ℕ) → ((c : ℕ) → b ≤ c → c < b + n → filedOf L′ c ≡ filedOf L c) → entriesFrom sigs L′ n b ≡ entriesFrom sigs L n b
+unfolding entriesFrom
+entries-same sigs L L′ zero b o = refl
+entries-same sigs L L′ (suc n) b o =
+    ap₂ _∷_ (entry-same sigs L L′ b (o b (omega arith) (omega arith))) (entries-same sigs L L′ n (suc b) (λ c h h′. o c (omega arith) (omega arith)))
+
+module _ (sigs links : List ℕ) (S : Sound sigs links) where
+  abbrev after : List ℕ
+  after = rebuildLinks sigs links
+
+  pub rebuild-unchanged : Unchanged (length sigs) links (rebuildLinks sigs links)
+  rebuild-unchanged =
+      let g : List ℕ = headsOf sigs links in
+      let G = heads-group sigs links S in
+      let b = all-below sigs links S in
+      let row = laid-row sigs links g (S .fits) b (G .apart) (G .few) in
+      record {
+        long = laid-long sigs links g (S .fits) b (G .apart) (G .few) ∙ sym (S .fits .links-long);
+        width = laid-width sigs links g (S .fits) b (G .apart) (G .few);
+        told = laid-told sigs links g (S .fits) b (G .apart) (G .few) ∙ sym (S .fits .told-word);
+        count = laid-count sigs links g (S .fits) b (G .apart) (G .few);
+        next = λ c h h′. row (nextAt c) (omega arith) (omega arith);
+        filed = λ c h h′. row (filedAt c) (omega arith) (omega arith);
+      }
+
+  sound-at : SoundAt (length sigs) (widthOf links) sigs (rebuildLinks sigs links)
+  sound-at = rebuilt sigs links S .sound
+
+  -- sound tables stay sound
+  pub rebuild-sound : Sound sigs (rebuildLinks sigs links)
+  rebuild-sound = subst (λ (F : ℕ). SoundAt (length sigs) F sigs (rebuildLinks sigs links)) (sym (rebuild-unchanged .width)) sound-at
+
+  -- the tree is made anew from its signatures
+  pub rebuild-tree : treeOf sigs (rebuildLinks sigs links) ≡ build (widthOf links) (signatures (treeOf sigs links))
+  unfolding sound-at
+  rebuild-tree =
+      ap (λ (F : ℕ). treeFrom (length sigs) sigs after F (rootOf after)) (rebuild-unchanged .width) ∙ tree-of-sound sound-at ∙ rebuilt sigs links S .tree
+
+  -- and so from the stored signatures
+  pub rebuild-stored : treeOf sigs (rebuildLinks sigs links) ≡ build (widthOf links) (stored (ledgerOf sigs links))
+  rebuild-stored = rebuild-tree ∙ sym (build-same (widthOf links) (stored (ledgerOf sigs links)) (signatures (treeOf sigs links)) (stored-leaves sigs links S))
+
+  -- the ledger stays
+  pub rebuild-ledger : ledgerOf sigs (rebuildLinks sigs links) ≡ ledgerOf sigs links
+  rebuild-ledger =
+      ap₂ (λ (F : ℕ) (es : List Entry). record { width = F; entries = es }) (rebuild-unchanged .width)
+      (entries-same sigs links after (length sigs) 1 (λ c h h′. rebuild-unchanged .filed c h (omega arith)))
+
+  -- whichever way the rebuilt tables are seen to be sound: the nodes, in the order a node, all of its left side, then its right, are
+  -- 1 and so on; the rest are free, ascending
+  module _ (T : SoundAt (length sigs) (widthOf links) sigs (rebuildLinks sigs links)) where
+    pub rebuild-numbered : nodesIn (T .tree) ≡ upFrom (length (headsOf sigs links) - 1) 1
+    unfolding sound-at
+    rebuild-numbered = ap nodesIn (tree-one T sound-at) ∙ rebuilt sigs links S .numbered
+
+    pub rebuild-free : T .free ≡ upFrom (length sigs - max 1 (length (headsOf sigs links))) (max 1 (length (headsOf sigs links)))
+    unfolding sound-at
+    rebuild-free = free-list-one T sound-at ∙ rebuilt sigs links S .free
+
+-- two sound tables of one width with the same stored signatures are rebuilt to the same tree
+pub rebuild-set : (sigs links sigs′ links′ : List ℕ) → Sound sigs links → Sound sigs′ links′ → widthOf links ≡ widthOf links′
+    → ((s : ℕ) → isStored s (ledgerOf sigs links) ≡ isStored s (ledgerOf sigs′ links′)) → treeOf sigs (rebuildLinks sigs links) ≡ treeOf sigs′ (rebuildLinks sigs′ links′)
+rebuild-set sigs links sigs′ links′ S S′ w o =
+    rebuild-stored sigs links S
+    ∙ build-same (widthOf links) (stored (ledgerOf sigs links)) (stored (ledgerOf sigs′ links′)) same
+    ∙ ap (λ (F : ℕ). build F (stored (ledgerOf sigs′ links′))) w
+    ∙ sym (rebuild-stored sigs′ links′ S′)
+  where
+    same : Same (stored (ledgerOf sigs links)) (stored (ledgerOf sigs′ links′))
+    same =
+        same-members (stored (ledgerOf sigs links)) (stored (ledgerOf sigs′ links′)) (once-distinct _) (once-distinct _)
+        (λ s m. in-once _ s (has-in s _ (sym (o s) ∙ in-has s _ (once-in _ s m))))
+        (λ s m. in-once _ s (has-in s _ (o s ∙ in-has s _ (once-in _ s m))))
