@@ -40,39 +40,40 @@ module _ {B : ℕ} {L : List ℕ} {b : ℕ} where
   pub seek : {h : ℕ} (cs : List ℕ) → Chain B L h cs → List·Memᴰ b cs → Sought B L b (blockBefore L b B h) B h
   seek {h} cs q m = record { rest = cs; chain = q; meets = m; short = chain-short B L h cs q; same = refl }
 
-  module _ {a n c : ℕ} (K : Sought B L b a n c) where
-    pub some-left : 0 < n
-    some-left = let h = more B L b c (K .rest) (K .meets) (K .chain) .0 in omega (arith, K .short)
+  pub some-left : {a n c : ℕ} → Sought B L b a n c → 0 < n
+  some-left {a} {n} {c} K = let h = more B L b c (K .rest) (K .meets) (K .chain) .0 in omega (arith, K .short)
 
-    pub next-is-block : (1 ≤ nextOf L c) × (nextOf L c ≤ B)
-    next-is-block = let h = more B L b c (K .rest) (K .meets) (K .chain) in (h .1, h .2)
+  -- x is the block after c
+  module _ {c x : ℕ} (e : x ≡ nextOf L c) where
+    pub next-is-block : {a n : ℕ} → Sought B L b a n c → (1 ≤ x) × (x ≤ B)
+    next-is-block K = let h = more B L b c (K .rest) (K .meets) (K .chain) in rw e (h .1, h .2)
 
-  pub found-before : {a c : ℕ} (n : ℕ) → Sought B L b a n c → nextOf L c ≡ b → c ≡ a
-  unfolding blockBefore
-  found-before zero K e = absurd (omega (arith, some-left K))
-  found-before {a} {c} (suc n) K e = rw (eq-eqb (nextOf L c) b e, blockBefore) at (K .same)
+    pub found-before : {a : ℕ} (n : ℕ) → Sought B L b a n c → x ≡ b → c ≡ a
+    unfolding blockBefore
+    found-before zero K y = absurd (omega (arith, some-left K))
+    found-before (suc n) K y = rw (eq-eqb (nextOf L c) b (sym e ∙ y), blockBefore) at (K .same)
 
-  pub pass : {a c : ℕ} (n : ℕ) → Sought B L b a n c → nextOf L c ≢ b → Sought B L b a (n - 1) (nextOf L c)
-  unfolding blockBefore
-  pass zero K ne = absurd (omega (arith, some-left K))
-  pass {a} {c} (suc n) K ne = go (K .rest) (K .chain) (K .meets) (K .short)
-    where
-      e : suc n - 1 ≡ n
-      e = omega arith
+    pub pass : {a : ℕ} (n : ℕ) → Sought B L b a n c → x ≢ b → Sought B L b a (n - 1) x
+    unfolding blockBefore
+    pass zero K ne = absurd (omega (arith, some-left K))
+    pass {a} (suc n) K ne = go (K .rest) (K .chain) (K .meets) (K .short)
+      where
+        less : suc n - 1 ≡ n
+        less = omega arith
 
-      same : blockBefore L b n (nextOf L c) ≡ a
-      same = rw (ne-eqb (nextOf L c) b ne, blockBefore) at (K .same)
+        same : blockBefore L b n x ≡ a
+        same = rw e (rw (ne-eqb (nextOf L c) b (λ y. ne (e ∙ y)), blockBefore) at (K .same))
 
-      later : {d : ℕ} {ds : List ℕ} → nextOf L c ≡ d → (b ≡ d) ⊎ List·Memᴰ b ds → List·Memᴰ b ds
-      later x (inl y) = absurd (ne (x ∙ sym y))
-      later x (inr m) = m
+        later : {d : ℕ} {ds : List ℕ} → nextOf L c ≡ d → (b ≡ d) ⊎ List·Memᴰ b ds → List·Memᴰ b ds
+        later y (inl z) = absurd (ne (e ∙ y ∙ sym z))
+        later y (inr m) = m
 
-      go : (ds : List ℕ) → Chain B L c ds → List·Memᴰ b ds → length ds ≤ suc n → Sought B L b a (suc n - 1) (nextOf L c)
-      go [] q m l = absurd (List·Memᴰ·not-nil m)
-      go (d ∷ ds) q m l = record {
-        rest = ds;
-        chain = subst (λ (x : ℕ). Chain B L x ds) (sym (q .0)) (q .3);
-        meets = later (q .0) (List·Memᴰ·cases-cons m);
-        short = omega arith;
-        same = rw e same;
-      }
+        go : (ds : List ℕ) → Chain B L c ds → List·Memᴰ b ds → length ds ≤ suc n → Sought B L b a (suc n - 1) x
+        go [] q m l = absurd (List·Memᴰ·not-nil m)
+        go (d ∷ ds) q m l = record {
+          rest = ds;
+          chain = subst (λ (y : ℕ). Chain B L y ds) (sym (e ∙ q .0)) (q .3);
+          meets = later (q .0) (List·Memᴰ·cases-cons m);
+          short = omega arith;
+          same = rw less same;
+        }

@@ -6,3 +6,4 @@ pub mod Over
 pub mod Withdrawing
 pub mod Raising
 pub mod Withdrawn
+pub mod Promised

@@ -9,10 +9,11 @@ use mathlib.Core.List.{List, [], _∷_, List·Memᴰ, List·Memᴰ·cases-cons}
 use lib.Dec.{leb}
 use lib.ListN.{length}
 use borrow.Author.Tests.{eq-eqb, ne-eqb, le-leb, lt-leb, leb-true}
-use Rattle.model.specs.Tables.{word, widthOf, rootOf, countOf, nextAt, nextOf, filedOf, signatureOf}
+use Rattle.model.specs.Tables.{word, linksOf, widthOf, rootOf, countOf, nextAt, filedAt, nextOf, filedOf, sideOf, signatureOf}
 use Rattle.model.specs.Sound.{Sound, Chain}
+use Rattle.model.specs.Stores.{_↤_}
 use Rattle.model.specs.File.{spotOf}
-use Rattle.model.specs.Withdraw.{siblingAt, parentOf, unlinkStores, raiseStores, withdrawStores}
+use Rattle.model.specs.Withdraw.{siblingAt, parentOf, withdrawalStores, unlinkStores, raiseStores, withdrawStores}
 use Rattle.tables.specs.Walk.{NodeFits, EdgeOf, Parent, Ends}
 use Rattle.tables.proofs.Counts.{filed-one}
 use Rattle.tables.proofs.Walks.{sound-fits}
@@ -33,59 +34,64 @@ block-in B b e = go (leb 1 b) (leb b B) refl refl e
 pub not-block : (B b : ℕ) → (leb 1 b && leb b B) ≡ false → 1 ≤ b → b ≤ B → ⊥
 not-block B b e h k = let z : (true && true) ≡ false = rw (le-leb 1 b h, le-leb b B k) at e in let y : _≡_ {A = ℕ} 0 1 = cc in omega arith
 
+-- a block's row stands inside the links
+pub row-inside : (B b n : ℕ) → 1 ≤ b → b ≤ B → n ≡ linksOf B → filedAt b < n
+row-inside B b n g h e = omega arith
+
 -- the block before b leads on past it
-pub unlinks : (B : ℕ) (L : List ℕ) (b c d : ℕ) → c ≡ d → Plans B L b (Relink (nextAt c) (nextOf L b)) (unlinkStores L b d)
-unlinks B L b c d e = rw (← e) (record { is = refl; does = refl })
+pub unlinks : (B : ℕ) (L : List ℕ) (b c d x : ℕ) → c ≡ d → x ≡ nextOf L b → Plans B L b (Relink (nextAt c) x) (unlinkStores L b d)
+unlinks B L b c d x e f = rw (← e, f) (record { is = refl; does = refl })
 
 -- the parent is node i, and x is the edge that leads from it to the leaf, more than 1 where it is unfit
 module _ (B F : ℕ) (L : List ℕ) (b s above i x : ℕ) (e : i ≡ word L above - B) (E : EdgeOf B F L s i x) where
   pub no-raise : (p : Plan) → 1 < x → PlansRaise B F L b s above p
   no-raise p h l f = absurd (omega (arith, E .fit (rw e f)))
 
-  pub raises : x ≤ 1 → PlansRaise B F L b s above (Raise above i (word L (2 * B + 3 * i + (4 - x))))
-  raises h l f =
-      let z : 4 - x ≡ 3 + (1 - x) = omega arith in
-      rw (← e, ← E .bit h, z) (record { is = refl; does = refl })
+  pub raises : (r : ℕ) → x ≤ 1 → r ≡ sideOf B L i (1 - x) → PlansRaise B F L b s above (Raise above i r)
+  raises r h y l f = rw (← e, ← E .bit h, y) (record { is = refl; does = refl })
 
--- b is the head of its chain
-module _ (B F : ℕ) (L : List ℕ) (b s link : ℕ) where
-  pub head-goes-on : nextOf L b ≢ 0 → Plans B L b (Relink link (nextOf L b)) (withdrawStores B F L b s link b (parentOf B F L s))
+-- b is the head of its chain, and x the block after it
+module _ (B F : ℕ) (L : List ℕ) (b s link x : ℕ) (e : x ≡ nextOf L b) where
+  pub head-goes-on : x ≢ 0 → Plans B L b (Relink link x) (withdrawStores B F L b s link b (parentOf B F L s))
   unfolding withdrawStores
-  head-goes-on n = rw (eq-eqb b b refl, withdrawStores, ne-eqb (nextOf L b) 0 n) (record { is = refl; does = refl })
+  head-goes-on n = rw (eq-eqb b b refl, withdrawStores, ← e, ne-eqb x 0 n) (record { is = refl; does = ap (λ (y : ℕ). withdrawalStores L b ((link ↤ y) ∷ [])) e })
 
-  module _ (above : ℕ) (n : nextOf L b ≡ 0) where
-    pub head-last : above ≡ 0 → ((rootOf L ≤ B) × (above ≡ 0)) ⊎ Parent B F L s above → Plans B L b (Relink 2 0) (withdrawStores B F L b s link b (parentOf B F L s))
+  module _ (above : ℕ) (n : x ≡ 0) where
+    ends : nextOf L b ≡ 0
+    ends = sym e ∙ n
+
+    pub head-last : above ≡ 0 → PlansHead B F L b s link above (Relink 2 0)
     unfolding withdrawStores
-    head-last z (inl t) = rw (eq-eqb b b refl, withdrawStores, eq-eqb (nextOf L b) 0 n, le-leb (rootOf L) B (t .0)) (record { is = refl; does = refl })
+    head-last z (inl t) = rw (eq-eqb b b refl, withdrawStores, eq-eqb (nextOf L b) 0 ends, le-leb (rootOf L) B (t .0)) (record { is = refl; does = refl })
     head-last z (inr P) = absurd (P .some z)
 
     pub head-raises : (p : Plan) → above ≢ 0 → PlansRaise B F L b s above p → PlansHead B F L b s link above p
     unfolding withdrawStores
     head-raises p z f (inl t) = absurd (z (t .1))
-    head-raises p z f (inr P) = rw (eq-eqb b b refl, withdrawStores, eq-eqb (nextOf L b) 0 n, lt-leb (rootOf L) B (P .root), ← P .parent) (f (P .node) (P .fit))
+    head-raises p z f (inr P) = rw (eq-eqb b b refl, withdrawStores, eq-eqb (nextOf L b) 0 ends, lt-leb (rootOf L) B (P .root), ← P .parent) (f (P .node) (P .fit))
 
 -- on sound tables, by where the walk ends: there is a block to withdraw, and its chain is found
 module _ (sigs L : List ℕ) (b : ℕ) (b1 : 1 ≤ b) (bB : b ≤ length sigs) (S : Sound sigs L) (filed : filedOf L b ≢ 0) where
   pub some-filed : countOf L ≢ 0
   some-filed = omega (arith, S .counted, filed-one L b (length sigs) b1 bB)
 
-  module _ (link above : ℕ) (E : Ends (length sigs) (widthOf L) L (signatureOf sigs b) link above) where
+  module _ (s link above : ℕ) (is : s ≡ signatureOf sigs b) (E : Ends (length sigs) (widthOf L) L s link above) where
     pub walk-found : link ≢ 0
-    walk-found = E .fit (sound-fits S (signatureOf sigs b))
+    walk-found = E .fit (sound-fits S s)
 
     C : Found (length sigs) (widthOf L) sigs L b
     C = found-chain S b b1 bB (omega (arith, S .filed-bit b b1 bB))
 
     at : link ≡ spotOf (length sigs) (widthOf L) L (signatureOf sigs b)
-    at = E .spot walk-found
+    at = E .spot walk-found ∙ ap (spotOf (length sigs) (widthOf L) L) is
 
     head-is : word L link ≡ C .head
     head-is = ap (word L) at ∙ C .reference
 
-    pub plans-head : (p : Plan) → word L link ≡ b → PlansHead (length sigs) (widthOf L) L b (signatureOf sigs b) link above p → Plans (length sigs) L b p (storesOf sigs L b)
+    pub plans-head : (p : Plan) → word L link ≡ b → PlansHead (length sigs) (widthOf L) L b s link above p → Plans (length sigs) L b p (storesOf sigs L b)
     plans-head p e f =
-        let e′ : word L (spotOf (length sigs) (widthOf L) L (signatureOf sigs b)) ≡ b = rw (← at) e in
-        rw (e′, ← at) (f (E .top walk-found (omega arith)))
+        let e′ : word L (spotOf (length sigs) (widthOf L) L (signatureOf sigs b)) ≡ b = ap (word L) (sym at) ∙ e in
+        rw (e′, ← at, ← is) (f (E .top walk-found (omega arith)))
 
     pub plans-chain : (p : Plan) → word L link ≢ b → PlansChain (length sigs) L b (word L link) p → Plans (length sigs) L b p (storesOf sigs L b)
     unfolding withdrawStores

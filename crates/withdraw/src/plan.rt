@@ -1,8 +1,6 @@
 // What a withdrawal stores, read and checked before any store: so a refusal changes nothing.
 ghost use mathlib.Core.Path.{_≡_};
-ghost use mathlib.Core.Bool.{_&&_};
 ghost use Prim.Native.Nat.{_≤_, _<_};
-ghost use lib.Dec.{leb};
 ghost use lib.ListN.{length};
 ghost use Rattle.model.specs.Tables.{linksOf, widthOf, countOf};
 ghost use Rattle.model.specs.Sound.{FitsAt};
@@ -16,16 +14,6 @@ pub enum Plan {
     Raise(usize, usize, u32),
 }
 
-// Whether the number is that of a block.
-pub fn is_block(blocks: usize, block: u32) -> bool
-    ensures { λ r. ⌜ r ≡ (leb 1 block && leb block blocks) ⌝ }
-{
-    if block == 0 {
-        return false;
-    }
-    block as usize <= blocks
-}
-
 // The block before `block` on the chain from `head`, or 0 where it is not met within as many blocks as there are.
 pub fn find_before(links: &[u32], blocks: usize, block: u32, head: u32) -> u32
     requires { ⌜ (blocks ≤ 65535) × (length (now links) ≡ linksOf blocks) × (1 ≤ head) × (head ≤ blocks) ⌝ }
@@ -35,11 +23,11 @@ pub fn find_before(links: &[u32], blocks: usize, block: u32, head: u32) -> u32
     let mut before = head;
     let mut left = blocks;
     while 0 < left {
-        let next = links[2 * before as usize + 3];
+        let next = tables::rows::next_of(links, before as usize);
         if next == block {
             return before;
         }
-        if !is_block(blocks, next) {
+        if !tables::front::is_block(next, blocks) {
             return 0;
         }
         before = next;
@@ -55,15 +43,15 @@ pub fn plan_chain(links: &[u32], blocks: usize, block: u32, head: u32) -> Plan
     ensures right { λ r. ⌜ PlansChain blocks (now (links .entry)) block head r ⌝ }
     ensures within { λ r. ⌜ PlanFits blocks (now (links .entry)) r ⌝ }
 {
-    if !is_block(blocks, head) {
+    if !tables::front::is_block(head, blocks) {
         return Plan::Unfit;
     }
     let before = find_before(links, blocks, block, head);
     if before == 0 {
         return Plan::Unfit;
     }
-    let at = 2 * before as usize + 3;
-    Plan::Relink(at, links[2 * block as usize + 3])
+    let next = tables::rows::next_of(links, block as usize);
+    Plan::Relink(2 * before as usize + 3, next)
 }
 
 // The sibling takes the place of the parent, whose reference is at address `above`.
@@ -89,7 +77,7 @@ pub fn plan_raise(
     if 1 < side {
         return Plan::Unfit;
     }
-    let sibling = links[2 * blocks + 3 * node + (4 - side as usize)];
+    let sibling = tables::nodes::side_of(links, blocks, node, 1 - side);
     Plan::Raise(above, node, sibling)
 }
 
@@ -108,7 +96,7 @@ pub fn plan_head(
     ensures right { λ r. ⌜ PlansHead blocks width (now (links .entry)) block signature link above r ⌝ }
     ensures within { λ r. ⌜ PlanFits blocks (now (links .entry)) r ⌝ }
 {
-    let next = links[2 * block as usize + 3];
+    let next = tables::rows::next_of(links, block as usize);
     if next != 0 {
         return Plan::Relink(link, next);
     }
@@ -130,7 +118,7 @@ pub fn plan_block(signatures: &[u64], links: &[u32], block: u32) -> Plan
     if links[4] == 0 {
         return Plan::Unfit;
     }
-    let signature = signatures[block as usize - 1];
+    let signature = tables::rows::signature_of(signatures, block as usize);
     let walked = tables::walk::walk(links, blocks, width, signature);
     let link = walked.link;
     if link == 0 {

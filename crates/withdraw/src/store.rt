@@ -9,41 +9,48 @@ ghost use Rattle.model.specs.Withdraw.{withdrawalStores, raiseStores};
 ghost use Rattle.withdraw.specs.Plan.{PlanFits, isPlan, planStores};
 use crate::plan::Plan;
 
-// The block's row becomes 0, the count falls by one, and one word more is stored.
-pub fn relink(links: &mut [u32], block: u32, at: usize, value: u32)
-    requires { ⌜ (1 ≤ block) × (filedAt block < length (now links)) × (length (now links) ≤ 327677) × (1 ≤ countOf (now links)) × (at < length (now links)) ⌝ }
+// The block's row becomes 0, and the count falls by one.
+pub fn clear_row(links: &mut [u32], block: usize)
+    requires { ⌜ (filedAt block < length (now links)) × (1 ≤ countOf (now links)) ⌝ }
+    ensures { λ _. ⌜ now (links .exit) ≡ stores (now (links .entry)) (withdrawalStores (now (links .entry)) block []) ⌝ }
+{
+    let count = links[4];
+    tables::rows::set_next(links, block, 0);
+    tables::rows::set_filed(links, block, 0);
+    links[4] = count - 1;
+}
+
+// The same, and one word more is stored.
+pub fn relink(links: &mut [u32], block: usize, at: usize, value: u32)
+    requires { ⌜ (filedAt block < length (now links)) × (1 ≤ countOf (now links)) × (at < length (now links)) ⌝ }
     ensures { λ _. ⌜ now (links .exit) ≡ stores (now (links .entry)) (withdrawalStores (now (links .entry)) block ((at ↤ value) ∷ [])) ⌝ }
 {
-    let b = block as usize;
-    let count = links[4];
-    links[2 * b + 3] = 0;
-    links[2 * b + 4] = 0;
-    links[4] = count - 1;
+    clear_row(links, block);
     links[at] = value;
 }
 
 // The same, the sibling takes the place of its parent, and the parent becomes the first free node.
-pub fn raise(links: &mut [u32], blocks: usize, block: u32, above: usize, node: usize, sibling: u32)
+pub fn raise(
+    links: &mut [u32],
+    blocks: usize,
+    block: usize,
+    above: usize,
+    node: usize,
+    sibling: u32,
+)
     requires { ⌜ (blocks ≤ 65535) × (length (now links) ≡ linksOf blocks) × (1 ≤ countOf (now links)) ⌝ }
-    requires { ⌜ (1 ≤ block) × (block ≤ blocks) × (above < linksOf blocks) × (1 ≤ node) × (node < blocks) ⌝ }
+    requires { ⌜ (block ≤ blocks) × (above < linksOf blocks) × (1 ≤ node) × (node < blocks) ⌝ }
     ensures { λ _. ⌜ now (links .exit) ≡ stores (now (links .entry)) (raiseStores blocks (now (links .entry)) block above node sibling) ⌝ }
 {
-    let b = block as usize;
-    let row = 2 * blocks + 3 * node;
-    let count = links[4];
     let free = links[3];
-    links[2 * b + 3] = 0;
-    links[2 * b + 4] = 0;
-    links[4] = count - 1;
-    links[row + 2] = 0;
-    links[row + 3] = free;
-    links[row + 4] = 0;
+    clear_row(links, block);
+    tables::nodes::set_node(links, blocks, node, 0, free, 0);
     links[3] = node as u32;
     links[above] = sibling;
 }
 
 // Makes the stores of a plan, and says whether there is one.
-pub fn carry_out(links: &mut [u32], blocks: usize, block: u32, plan: Plan) -> bool
+pub fn make(links: &mut [u32], blocks: usize, block: u32, plan: Plan) -> bool
     requires { ⌜ (blocks ≤ 65535) × (length (now links) ≡ linksOf blocks) × (1 ≤ block) × (block ≤ blocks) ⌝ }
     requires { ⌜ PlanFits blocks (now links) plan ⌝ }
     ensures { λ r. ⌜ (r ≡ isPlan plan) × (now (links .exit) ≡ stores (now (links .entry)) (planStores blocks (now (links .entry)) block plan)) ⌝ }
@@ -51,11 +58,11 @@ pub fn carry_out(links: &mut [u32], blocks: usize, block: u32, plan: Plan) -> bo
     match plan {
         Plan::Unfit => false,
         Plan::Relink(at, value) => {
-            relink(links, block, at, value);
+            relink(links, block as usize, at, value);
             true
         }
         Plan::Raise(above, node, sibling) => {
-            raise(links, blocks, block, above, node, sibling);
+            raise(links, blocks, block as usize, above, node, sibling);
             true
         }
     }

@@ -26,29 +26,20 @@ abbrev μ-loop : tie.MeasureT-loop
 loop-holds : tie.Need-loop-holds Inv-loop μ-loop
 loop-holds c = (omega arith, omega arith, seek)
 
-cast-next : tie.Need-cast-next Inv-loop μ-loop
-cast-next c = search needs
+cast-next-of : tie.Need-cast-next-of Inv-loop μ-loop
+cast-next-of c = search needs
 
-mul-next : tie.Need-mul-next Inv-loop μ-loop
-mul-next c = search needs
-
-add-next : tie.Need-add-next Inv-loop μ-loop
-add-next c = search needs
-
-mul-next-2 : tie.Need-mul-next-2 Inv-loop μ-loop
-mul-next-2 c = search needs
-
-shared-slice-read-next : tie.Need-shared-slice-read-next Inv-loop μ-loop
-shared-slice-read-next c = omega arith
+next-of-requires : tie.Need-next-of-requires Inv-loop μ-loop
+next-of-requires c κs = omega arith
 
 returns : tie.Need-returns Inv-loop μ-loop
-returns c = ((λ cs q m. (found-before _ (c .before .before .before .loop .inv .2 cs q m) (c .if1 .taken), omega arith)), omega arith)
+returns c = ((λ cs q m. (found-before (c .before .next-of .ensures) _ (c .before .before .before .loop .inv .2 cs q m) (c .if1 .taken), omega arith)), omega arith)
 
 is-block-requires : tie.Need-is-block-requires Inv-loop μ-loop
 is-block-requires c κs = search needs
 
 returns-2 : tie.Need-returns-2 Inv-loop μ-loop
-returns-2 c = ((λ cs q m. let k = next-is-block (c .before .before .before .before .before .loop .inv .2 cs q m) in absurd (not-block _ _ (sym (c .before .is-block .ensures) ∙ not-true _ (c .if2 .taken)) (k .0) (k .1))), omega arith)
+returns-2 c = ((λ cs q m. let k = next-is-block (c .before .before .before .next-of .ensures) (c .before .before .before .before .before .loop .inv .2 cs q m) in absurd (not-block _ _ (sym (c .before .is-block .ensures) ∙ not-true _ (c .if2 .taken)) (k .0) (k .1))), omega arith)
 
 sub-left : tie.Need-sub-left Inv-loop μ-loop
 sub-left c = search needs
@@ -57,7 +48,7 @@ loop-less : tie.Need-loop-less Inv-loop μ-loop
 loop-less c = search needs
 
 loop-again : tie.Need-loop-again Inv-loop μ-loop
-loop-again c = let r = block-in _ _ (sym (c .before .is-block .ensures) ∙ not-false _ (c .if2 .left)) in (r .0, r .1, λ cs q m. pass _ (c .before .before .before .before .before .loop .inv .2 cs q m) (c .before .before .if1 .left))
+loop-again c = let r = block-in _ _ (sym (c .before .is-block .ensures) ∙ not-false _ (c .if2 .left)) in (r .0, r .1, λ cs q m. pass (c .before .before .before .next-of .ensures) _ (c .before .before .before .before .before .loop .inv .2 cs q m) (c .before .before .if1 .left))
 
 returns-3 : tie.Need-returns-3 Inv-loop μ-loop
 returns-3 c = ((λ cs q m. let k = some-left (c .before .loop .inv .2 cs q m) in absurd (omega arith)), omega arith)
@@ -69,11 +60,8 @@ find-before-spec =
     Inv-loop
     μ-loop
     loop-holds
-    cast-next
-    mul-next
-    add-next
-    mul-next-2
-    shared-slice-read-next
+    cast-next-of
+    next-of-requires
     returns
     is-block-requires
     returns-2

@@ -20,14 +20,11 @@ find-before-requires c κs = let r = block-in _ _ (sym (c .before .is-block .ens
 returns-2 : tie.Need-returns-2
 returns-2 c = ((λ cs h k q m. let z = c .before .find-before .ensures .0 cs q m .1 in absurd (omega (arith, c .if2 .taken))), tt)
 
-cast-at : tie.Need-cast-at
-cast-at c = search needs
+next-of-requires : tie.Need-next-of-requires
+next-of-requires c κs = omega arith
 
-mul-at : tie.Need-mul-at
-mul-at c = search needs
-
-add-at : tie.Need-add-at
-add-at c = search needs
+cast-t9 : tie.Need-cast-t9
+cast-t9 c = search needs
 
 mul-t10 : tie.Need-mul-t10
 mul-t10 c = search needs
@@ -35,14 +32,8 @@ mul-t10 c = search needs
 add-t11 : tie.Need-add-t11
 add-t11 c = search needs
 
-mul-t12 : tie.Need-mul-t12
-mul-t12 c = search needs
-
-shared-slice-read-t14 : tie.Need-shared-slice-read-t14
-shared-slice-read-t14 c = search needs
-
 returns-3 : tie.Need-returns-3
-returns-3 c = ((λ cs h k q m. unlinks _ _ _ _ _ (c .before .before .find-before .ensures .0 cs q m .0)), (omega arith, omega (arith, c .before .before .find-before .ensures .1)))
+returns-3 c = ((λ cs h k q m. unlinks _ _ _ _ _ _ (c .before .before .find-before .ensures .0 cs q m .0) (c .next-of .ensures)), (omega arith, omega (arith, c .before .before .find-before .ensures .1)))
 
 pub plan-chain-spec : {M : Type 1} → statement M
 plan-chain-spec =
@@ -52,11 +43,8 @@ plan-chain-spec =
     returns
     find-before-requires
     returns-2
-    cast-at
-    mul-at
-    add-at
+    next-of-requires
+    cast-t9
     mul-t10
     add-t11
-    mul-t12
-    shared-slice-read-t14
     returns-3)

@@ -29,32 +29,11 @@ edge-requires c κs = search needs
 returns-2 : tie.Need-returns-2
 returns-2 c = (no-raise _ _ _ _ _ _ _ _ (ap (λ (n : ℕ). n - c .before .before .before .before .before .before .args .blocks) (c .before .before .before .wide .ensures)) (c .before .edge .ensures) _ (c .if2 .taken), tt)
 
-mul-sibling : tie.Need-mul-sibling
-mul-sibling c = search needs
-
-mul-sibling-2 : tie.Need-mul-sibling-2
-mul-sibling-2 c = let n = c .before .edge .ensures .node (c .if2 .left) .0 in omega arith
-
-add-sibling : tie.Need-add-sibling
-add-sibling c = let n = c .before .edge .ensures .node (c .if2 .left) .0 in omega arith
-
-cast-sibling : tie.Need-cast-sibling
-cast-sibling c = search needs
-
-sub-sibling : tie.Need-sub-sibling
-sub-sibling c = search needs
-
-add-sibling-2 : tie.Need-add-sibling-2
-add-sibling-2 c = let n = c .before .edge .ensures .node (c .if2 .left) .0 in omega arith
-
-mul-sibling-3 : tie.Need-mul-sibling-3
-mul-sibling-3 c = let n = c .before .edge .ensures .node (c .if2 .left) .0 in omega arith
-
-shared-slice-read-sibling : tie.Need-shared-slice-read-sibling
-shared-slice-read-sibling c = let n = c .before .before .edge .ensures .node (c .before .if2 .left) .0 in omega arith
+side-of-requires : tie.Need-side-of-requires
+side-of-requires c κs = (omega arith, c .before .edge .ensures .node (c .if2 .left) .0, omega arith)
 
 returns-3 : tie.Need-returns-3
-returns-3 c = (raises _ _ _ _ _ _ _ _ (ap (λ (n : ℕ). n - c .before .before .before .before .before .before .before .args .blocks) (c .before .before .before .before .wide .ensures)) (c .before .before .edge .ensures) (c .before .if2 .left), (omega arith, omega arith, omega arith, c .before .before .edge .ensures .node (c .before .if2 .left) .0))
+returns-3 c = (raises _ _ _ _ _ _ _ _ (ap (λ (n : ℕ). n - c .before .before .before .before .before .before .before .args .blocks) (c .before .before .before .before .wide .ensures)) (c .before .before .edge .ensures) _ (c .before .if2 .left) (c .side-of .ensures), (omega arith, omega arith, omega arith, c .before .before .edge .ensures .node (c .before .if2 .left) .0))
 
 pub plan-raise-spec : {M : Type 1} → statement M
 plan-raise-spec =
@@ -67,12 +46,5 @@ plan-raise-spec =
     sub-node
     edge-requires
     returns-2
-    mul-sibling
-    mul-sibling-2
-    add-sibling
-    cast-sibling
-    sub-sibling
-    add-sibling-2
-    mul-sibling-3
-    shared-slice-read-sibling
+    side-of-requires
     returns-3)

@@ -1,133 +1,49 @@
 -- `withdraw::store::raise` meets its contract: its stores, in their order, are the definition's.
 -- Assumes nothing.
-use borrow.Author.Needs.{needs}
 use lib.ListN.{length-set}
-use mathlib.Core.Path.{refl}
+use Rattle.model.proofs.Stores.{length-stores}
+use borrow.Author.Needs.{needs}
 use native.Mathlib.Omega.{arith}
 use Rattle.withdraw.proofs.store.raise.Statement.{statement}
 use Rattle.withdraw.proofs.store.raise.Tie as tie
 
-mul-row : tie.Need-mul-row
-mul-row c = search needs
-
-mul-row-2 : tie.Need-mul-row-2
-mul-row-2 c = search needs
-
-add-row : tie.Need-add-row
-add-row c = search needs
-
-slice-read-count : tie.Need-slice-read-count
-slice-read-count c = search needs
-
 slice-read-free : tie.Need-slice-read-free
 slice-read-free c = search needs
 
-mul-links : tie.Need-mul-links
-mul-links c = search needs
+clear-row-requires : tie.Need-clear-row-requires
+clear-row-requires c κs = search needs
 
-add-links : tie.Need-add-links
-add-links c = search needs
-
-mul-links-2 : tie.Need-mul-links-2
-mul-links-2 c = search needs
-
-slice-write-links : tie.Need-slice-write-links
-slice-write-links c = search needs
-
-mul-links-3 : tie.Need-mul-links-3
-mul-links-3 c = search needs
-
-add-links-2 : tie.Need-add-links-2
-add-links-2 c = search needs
-
-mul-links-4 : tie.Need-mul-links-4
-mul-links-4 c = search needs
-
-slice-write-links-2 : tie.Need-slice-write-links-2
-slice-write-links-2 c = simp length-set (omega arith)
-
-sub-links : tie.Need-sub-links
-sub-links c = search needs
-
-slice-write-links-3 : tie.Need-slice-write-links-3
-slice-write-links-3 c = simp length-set (omega arith)
-
-add-links-3 : tie.Need-add-links-3
-add-links-3 c = search needs
-
-mul-links-5 : tie.Need-mul-links-5
-mul-links-5 c = search needs
-
-slice-write-links-4 : tie.Need-slice-write-links-4
-slice-write-links-4 c = simp length-set (omega arith)
-
-add-links-4 : tie.Need-add-links-4
-add-links-4 c = search needs
-
-mul-links-6 : tie.Need-mul-links-6
-mul-links-6 c = search needs
-
-slice-write-links-5 : tie.Need-slice-write-links-5
-slice-write-links-5 c = simp length-set (omega arith)
-
-add-links-5 : tie.Need-add-links-5
-add-links-5 c = search needs
-
-mul-links-7 : tie.Need-mul-links-7
-mul-links-7 c = search needs
-
-slice-write-links-6 : tie.Need-slice-write-links-6
-slice-write-links-6 c = simp length-set (omega arith)
+set-node-requires : tie.Need-set-node-requires
+set-node-requires c κs = rw (c .before .before .before .clear-row .ensures) (simp length-stores (omega arith))
 
 cast-links : tie.Need-cast-links
 cast-links c = search needs
 
-slice-write-links-7 : tie.Need-slice-write-links-7
-slice-write-links-7 c = simp length-set (omega arith)
+slice-write-links : tie.Need-slice-write-links
+slice-write-links c = rw (c .before .before .set-node .ensures) (simp length-stores (rw (c .before .before .before .before .before .before .clear-row .ensures) (simp length-stores (omega arith))))
 
-mul-links-8 : tie.Need-mul-links-8
-mul-links-8 c = search needs
+mul-links : tie.Need-mul-links
+mul-links c = search needs
 
-slice-write-links-8 : tie.Need-slice-write-links-8
-slice-write-links-8 c = simp length-set (omega arith)
+slice-write-links-2 : tie.Need-slice-write-links-2
+slice-write-links-2 c = simp length-set (rw (c .before .before .set-node .ensures) (simp length-stores (rw (c .before .before .before .before .before .before .clear-row .ensures) (simp length-stores (omega arith)))))
 
 same-length : tie.Need-same-length
-same-length c = simp length-set
+same-length c = simp length-set (rw (c .before .before .set-node .ensures) (simp length-stores (rw (c .before .before .before .before .before .before .clear-row .ensures) (simp length-stores))))
 
 returns : tie.Need-returns
-returns c = refl
+returns c = rw (c .before .before .set-node .ensures, c .before .before .before .before .before .before .clear-row .ensures)
 
 pub raise-spec : {M : Type 1} → statement M
 raise-spec =
     tie.close
     (tie.spec
-    mul-row
-    mul-row-2
-    add-row
-    slice-read-count
     slice-read-free
-    mul-links
-    add-links
-    mul-links-2
-    slice-write-links
-    mul-links-3
-    add-links-2
-    mul-links-4
-    slice-write-links-2
-    sub-links
-    slice-write-links-3
-    add-links-3
-    mul-links-5
-    slice-write-links-4
-    add-links-4
-    mul-links-6
-    slice-write-links-5
-    add-links-5
-    mul-links-7
-    slice-write-links-6
+    clear-row-requires
+    set-node-requires
     cast-links
-    slice-write-links-7
-    mul-links-8
-    slice-write-links-8
+    slice-write-links
+    mul-links
+    slice-write-links-2
     same-length
     returns)

@@ -1,73 +1,33 @@
 -- `withdraw::store::relink` meets its contract: its stores, in their order, are the definition's.
 -- Assumes nothing.
-use borrow.Author.Needs.{needs}
 use lib.ListN.{length-set}
-use mathlib.Core.Path.{refl}
+use Rattle.model.proofs.Stores.{length-stores}
+use borrow.Author.Needs.{needs}
 use native.Mathlib.Omega.{arith}
 use Rattle.withdraw.proofs.store.relink.Statement.{statement}
 use Rattle.withdraw.proofs.store.relink.Tie as tie
 
-slice-read-count : tie.Need-slice-read-count
-slice-read-count c = search needs
+clear-row-requires : tie.Need-clear-row-requires
+clear-row-requires c κs = search needs
 
 mul-links : tie.Need-mul-links
 mul-links c = search needs
 
-add-links : tie.Need-add-links
-add-links c = search needs
-
-mul-links-2 : tie.Need-mul-links-2
-mul-links-2 c = search needs
-
 slice-write-links : tie.Need-slice-write-links
-slice-write-links c = search needs
-
-mul-links-3 : tie.Need-mul-links-3
-mul-links-3 c = search needs
-
-add-links-2 : tie.Need-add-links-2
-add-links-2 c = search needs
-
-mul-links-4 : tie.Need-mul-links-4
-mul-links-4 c = search needs
-
-slice-write-links-2 : tie.Need-slice-write-links-2
-slice-write-links-2 c = simp length-set (omega arith)
-
-sub-links : tie.Need-sub-links
-sub-links c = search needs
-
-slice-write-links-3 : tie.Need-slice-write-links-3
-slice-write-links-3 c = simp length-set (omega arith)
-
-mul-links-5 : tie.Need-mul-links-5
-mul-links-5 c = search needs
-
-slice-write-links-4 : tie.Need-slice-write-links-4
-slice-write-links-4 c = simp length-set (omega arith)
+slice-write-links c = rw (c .before .before .clear-row .ensures) (simp length-stores (omega arith))
 
 same-length : tie.Need-same-length
-same-length c = simp length-set
+same-length c = simp length-set (rw (c .before .before .clear-row .ensures) (simp length-stores))
 
 returns : tie.Need-returns
-returns c = refl
+returns c = rw (c .before .before .clear-row .ensures)
 
 pub relink-spec : {M : Type 1} → statement M
 relink-spec =
     tie.close
     (tie.spec
-    slice-read-count
+    clear-row-requires
     mul-links
-    add-links
-    mul-links-2
     slice-write-links
-    mul-links-3
-    add-links-2
-    mul-links-4
-    slice-write-links-2
-    sub-links
-    slice-write-links-3
-    mul-links-5
-    slice-write-links-4
     same-length
     returns)

@@ -1,11 +1,11 @@
--- `withdraw::store::carry_out` meets its contract: each arm makes its plan's stores, and a plan that fits keeps them inside.
+-- `withdraw::store::make` meets its contract: each arm makes its plan's stores, and a plan that fits keeps them inside.
 -- Assumes nothing.
-use borrow.Author.Needs.{needs}
 use mathlib.Core.Path.{refl, subst}
-use native.Mathlib.Omega.{arith}
 use Rattle.withdraw.specs.Plan.{PlanFits}
-use Rattle.withdraw.proofs.store.carry_out.Statement.{statement}
-use Rattle.withdraw.proofs.store.carry_out.Tie as tie
+use borrow.Author.Needs.{needs}
+use native.Mathlib.Omega.{arith}
+use Rattle.withdraw.proofs.store.make.Statement.{statement}
+use Rattle.withdraw.proofs.store.make.Tie as tie
 
 enum-told : tie.Need-enum-told
 enum-told c = search needs
@@ -37,8 +37,8 @@ same-length-2 c = search needs
 returns-3 : tie.Need-returns-3
 returns-3 c = rw (c .before .before .before .before .before .plan2 .given .1) (refl, c .before .before .raise .ensures)
 
-pub carry-out-spec : {M : Type 1} → statement M
-carry-out-spec =
+pub make-spec : {M : Type 1} → statement M
+make-spec =
     tie.close
     (tie.spec
     enum-told
