@@ -10,8 +10,8 @@ LONGEST, MOST = 4096, 8
 
 
 def words(text):
-    """The longest runs of bytes other than 32 and 10."""
-    return re.findall(rb"[^ \n]+", text)
+    """The longest runs of bytes other than 32 and 10, each with where it starts."""
+    return [(m.start(), m.group()) for m in re.finditer(rb"[^ \n]+", text)]
 
 
 def positions(word, width, k):
@@ -31,7 +31,7 @@ def sign(text, width, k):
         return 12, 0
     if not 1 <= k <= MOST:
         return 13, 0
-    is_set = {p for word in words(text) for p in positions(word, width, k)}
+    is_set = {p for _, word in words(text) for p in positions(word, width, k)}
     return 0, int("".join("1" if p in is_set else "0" for p in range(1, width + 1)), 2)
 
 
@@ -42,9 +42,10 @@ def show(text, width, k):
 
 
 def split(text, n):
-    found = words(text) if len(text) <= LONGEST else []
-    word = found[n - 1] if 1 <= n <= len(found) else b""
-    print(f"word {n} answer {12 if len(text) > LONGEST else 0} bytes {len(word)} [{word.decode()}]")
+    answer = 12 if len(text) > LONGEST else 0
+    found = words(text) if answer == 0 else []
+    start, word = found[n - 1] if 1 <= n <= len(found) else (len(text), b"")
+    print(f"word {n} answer {answer} bytes {len(word)} [{word.decode()}] answer {answer} start {start} size {len(word)}")
 
 
 def covers(signature, query):

@@ -146,6 +146,11 @@ pub record WordPromise (text : RefT (List ℕ)) (n answer : ℕ) (part : RefT (L
   pub refused : wordRefusal (now text) ≢ 0 → (answer ≡ wordRefusal (now text)) × IsPart (endOf (now text)) text part
   pub done : wordRefusal (now text) ≡ 0 → (answer ≡ 0) × IsPart (wordAt (now text) n) text part
 
+-- The splitter as C can have it, which cannot be handed a part: the same part as two numbers.
+pub record PlacePromise (text : List ℕ) (n answer start size : ℕ) : Type 0 where
+  pub refused : wordRefusal text ≢ 0 → (answer ≡ wordRefusal text) × (record { start = start; size = size } ≡ endOf text)
+  pub done : wordRefusal text ≡ 0 → (answer ≡ 0) × (record { start = start; size = size } ≡ wordAt text n)
+
 -- The signer: refused, the signature 0, else the text's.
 pub record SignPromise (F K : ℕ) (text : List ℕ) (answer signature : ℕ) : Type 0 where
   pub refused : signRefusal F K text ≢ 0 → (answer ≡ signRefusal F K text) × (signature ≡ 0)

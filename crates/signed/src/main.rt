@@ -19,7 +19,7 @@ fn show(text: &[u8], width: u32, k: u32) -> u64 {
     signature
 }
 
-// One word: its number, the answer, its length and its bytes.
+// One word: its number, the answer, its length and its bytes; then its place, as a caller from C asks for it.
 fn split(text: &[u8], n: u32) {
     let mut answer = 99;
     let word = words::word(text, n, &mut answer);
@@ -28,7 +28,15 @@ fn split(text: &[u8], n: u32) {
     say(b" bytes ", word.len() as u64);
     io::write_all(STDOUT_FILENO, b" [");
     io::write_all(STDOUT_FILENO, word);
-    io::write_all(STDOUT_FILENO, b"]\n");
+    let mut start = 0;
+    let mut size = 0;
+    say(
+        b"] answer ",
+        words::word_place(text, n, &mut start, &mut size) as u64,
+    );
+    say(b" start ", start as u64);
+    say(b" size ", size as u64);
+    io::write_all(STDOUT_FILENO, b"\n");
 }
 
 // Document 01's triplets at width 12, and words of 1, 2 and 3 bytes.

@@ -1,60 +1,78 @@
--- The questions of the splitter and the signer, answered: each no gives its promise by the number alone, and all yes the promised value.
+-- The questions of the splitter and the signer: what each no and what all yes make of the refusal, and the promises from there.
 -- Assumes nothing.
-use mathlib.Core.Path.{_≡_, refl, sym, subst}
+use mathlib.Core.Path.{_≡_, refl, sym, ap, _∙_, subst}
+use mathlib.Core.Logic.{_≢_}
 use mathlib.Core.List.{List}
-use Prim.Native.Nat.{ℕ, suc, _≤_, _<_}
+use Prim.Native.Nat.{ℕ, _-_, _≤_, _<_}
 use native.Mathlib.Omega.{arith}
 use lib.ListN.{length}
 use denote.Ref.{RefT, now}
 use borrow.Author.Tests.{le-leb, lt-leb}
 use Rattle.model.specs.Questions.{ask}
-use Rattle.model.specs.Words.{Part, endOf, wordAt, textSignature, wordRefusal, signRefusal, IsPart, WordPromise, SignPromise}
+use Rattle.words.specs.Parts.{partOf}
+use Rattle.model.specs.Words.{Part, endOf, wordAt, textSignature, wordRefusal, signRefusal, IsPart, WordPromise, PlacePromise, SignPromise}
 
 -- ---- the splitter
 
-module _ (t : RefT (List ℕ)) (n : ℕ) (r : RefT (List ℕ)) where
-  pub word-refused : 4096 < length (now t) → IsPart (endOf (now t)) t r → WordPromise t n 12 r
-  unfolding wordRefusal ask
-  word-refused h p =
-      let e : wordRefusal (now t) ≡ 12 = simp (lt-leb (length (now t)) 4096 h) in
-      record { refused = λ _. (sym e, p); done = λ z. absurd (omega arith) }
+pub empty-part : (text : List ℕ) → partOf (length text) (length text) ≡ endOf text
+empty-part text =
+    let z : length text - length text ≡ 0 = omega arith in
+    ap (λ (k : ℕ). record { start = length text; size = k }) z
 
-  pub word-done : (p : Part) → length (now t) ≤ 4096 → p ≡ wordAt (now t) n → IsPart p t r → WordPromise t n 0 r
+module _ (text : List ℕ) (n : ℕ) where
+  pub place-refused : 4096 < length text → PlacePromise text n 12 (length text) (length text - length text)
   unfolding wordRefusal ask
-  word-done p h same part =
-      let e : wordRefusal (now t) ≡ 0 = simp (le-leb (length (now t)) 4096 h) in
-      record { refused = λ f. absurd (f e); done = λ _. (refl, subst (λ (q : Part). IsPart q t r) same part) }
+  place-refused h =
+      let e : wordRefusal text ≡ 12 = simp (lt-leb (length text) 4096 h) in
+      record { refused = λ _. (sym e, empty-part text); done = λ z. absurd (omega arith) }
+
+  pub place-done : (start end : ℕ) → length text ≤ 4096 → partOf start end ≡ wordAt text n → PlacePromise text n 0 start (end - start)
+  unfolding wordRefusal ask
+  place-done start end h same =
+      let e : wordRefusal text ≡ 0 = simp (le-leb (length text) 4096 h) in
+      record { refused = λ f. absurd (f e); done = λ _. (refl, same) }
+
+-- the part at a promised place is the promised part
+pub word-placed : (t r : RefT (List ℕ)) (n answer start size : ℕ) → PlacePromise (now t) n answer start size
+    → IsPart (record { start = start; size = size }) t r → WordPromise t n answer r
+word-placed t r n answer start size p part =
+    record {
+      refused = λ f. (p .refused f .0, subst (λ (q : Part). IsPart q t r) (p .refused f .1) part);
+      done = λ e. (p .done e .0, subst (λ (q : Part). IsPart q t r) (p .done e .1) part);
+    }
 
 -- ---- the signer
 
 module _ (F K : ℕ) (text : List ℕ) where
-  refused : (n : ℕ) → signRefusal F K text ≡ suc n → SignPromise F K text (suc n) 0
-  refused n e = record { refused = λ _. (sym e, refl); done = λ z. absurd (omega arith) }
-
-  pub sign-narrow : F < 1 → SignPromise F K text 4 0
+  pub no-width : F < 1 → 4 ≡ signRefusal F K text
   unfolding signRefusal ask
-  sign-narrow h = refused 3 (simp (lt-leb 1 F h))
+  no-width h = simp (lt-leb 1 F h)
 
-  pub sign-wide : 64 < F → SignPromise F K text 4 0
+  pub wide : 64 < F → 4 ≡ signRefusal F K text
   unfolding signRefusal ask
-  sign-wide h = refused 3 (simp (le-leb 1 F (omega arith), lt-leb F 64 h))
+  wide h = simp (le-leb 1 F (omega arith), lt-leb F 64 h)
 
   module _ (low : 1 ≤ F) (high : F ≤ 64) where
-    pub sign-long : 4096 < length text → SignPromise F K text 12 0
+    pub long : 4096 < length text → 12 ≡ signRefusal F K text
     unfolding signRefusal ask
-    sign-long h = refused 11 (simp (le-leb 1 F low, le-leb F 64 high, lt-leb (length text) 4096 h))
+    long h = simp (le-leb 1 F low, le-leb F 64 high, lt-leb (length text) 4096 h)
 
     module _ (short : length text ≤ 4096) where
-      pub sign-few : K < 1 → SignPromise F K text 13 0
+      pub few : K < 1 → 13 ≡ signRefusal F K text
       unfolding signRefusal ask
-      sign-few h = refused 12 (simp (le-leb 1 F low, le-leb F 64 high, le-leb (length text) 4096 short, lt-leb 1 K h))
+      few h = simp (le-leb 1 F low, le-leb F 64 high, le-leb (length text) 4096 short, lt-leb 1 K h)
 
-      pub sign-many : 8 < K → SignPromise F K text 13 0
+      pub many : 8 < K → 13 ≡ signRefusal F K text
       unfolding signRefusal ask
-      sign-many h = refused 12 (simp (le-leb 1 F low, le-leb F 64 high, le-leb (length text) 4096 short, le-leb 1 K (omega arith), lt-leb K 8 h))
+      many h = simp (le-leb 1 F low, le-leb F 64 high, le-leb (length text) 4096 short, le-leb 1 K (omega arith), lt-leb K 8 h)
 
-      pub sign-done : 1 ≤ K → K ≤ 8 → (s : ℕ) → s ≡ textSignature F K text → SignPromise F K text 0 s
+      pub passed : 1 ≤ K → K ≤ 8 → 0 ≡ signRefusal F K text
       unfolding signRefusal ask
-      sign-done p q s h =
-          let e : signRefusal F K text ≡ 0 = simp (le-leb 1 F low, le-leb F 64 high, le-leb (length text) 4096 short, le-leb 1 K p, le-leb K 8 q) in
-          record { refused = λ f. absurd (f e); done = λ _. (refl, h) }
+      passed p q = simp (le-leb 1 F low, le-leb F 64 high, le-leb (length text) 4096 short, le-leb 1 K p, le-leb K 8 q)
+
+  -- the promise, from the refusal
+  pub sign-refused : (answer : ℕ) → answer ≡ signRefusal F K text → answer ≢ 0 → SignPromise F K text answer 0
+  sign-refused answer e f = record { refused = λ _. (e, refl); done = λ z. absurd (f (e ∙ z)) }
+
+  pub sign-done : (answer s : ℕ) → answer ≡ signRefusal F K text → answer ≡ 0 → s ≡ textSignature F K text → SignPromise F K text answer s
+  sign-done answer s e z h = record { refused = λ f. absurd (f (sym e ∙ z)); done = λ _. (z, h) }

@@ -15,7 +15,7 @@ use Rattle.model.specs.Words.{wordsOf, tripletsFrom, triplets, different, posit
 use Rattle.signature.proofs.Covering.{covers-zero, covers-trans, covers-left, covers-right, covers-or}
 use Rattle.words.specs.Pass.{Inside}
 use Rattle.words.proofs.Triplets.{position-inside}
-use Rattle.words.proofs.Asked.{sign-narrow}
+use Rattle.words.proofs.Asked.{no-width}
 use Rattle.words.proofs.Different.{times}
 use Rattle.words.proofs.Setting.{inside-different, inside-take, set-bit, set-below}
 
@@ -101,7 +101,5 @@ sign-fits F K text answer s p = go (ℕ-discrete (signRefusal F K text) 0) (decL
   where
     go : Dec (signRefusal F K text ≡ 0) → Dec (F < 1) → s < 2 ^ F
     go (no n) d = subst (λ (k : ℕ). k < 2 ^ F) (sym (p .refused n .1)) (pow-pos F)
-    go (yes e) (yes l) =
-        let f : _≡_ {A = ℕ} 4 0 = sign-narrow F K text l .done e .0 in
-        absurd (omega arith)
+    go (yes e) (yes l) = absurd (omega (arith, no-width F K text l))
     go (yes e) (no g) = subst (λ (k : ℕ). k < 2 ^ F) (sym (p .done e .1)) (signature-below F K text (omega arith))

@@ -1,7 +1,7 @@
--- The splitter's place of a word as the part that it stands for.
+-- The bytes from a start up to an end, as a part of a text.
 -- Assumes nothing.
+use Prim.Native.Nat.{ℕ, _-_}
 use Rattle.model.specs.Words.{Part}
-use Rattle.words.specs.declared.splitter.Place.{Place}
 
-abbrev pub partOf : Place → Part
-partOf p = record { start = p .start; size = p .size }
+abbrev pub partOf : ℕ → ℕ → Part
+partOf start end = record { start = start; size = end - start }

@@ -7,6 +7,7 @@ use mathlib.Core.Logic.{⊎-elim}
 use lib.ListN.{length}
 use Rattle.model.specs.Words.{wordAt}
 use Rattle.words.proofs.Splitting.{rest, begins, goes-on, between, passed, is-found, ends-between, ends-short, ends-found, zeroth}
+use Rattle.words.proofs.Asked.{empty-part}
 use borrow.Author.Needs.{needs}
 use native.Mathlib.Omega.{arith}
 use Rattle.words.proofs.splitter.locate.Statement.{statement}
@@ -21,7 +22,7 @@ abbrev μ-loop : tie.MeasureT-loop
 returns : tie.Need-returns Inv-loop μ-loop
 returns c =
     let a = c .before .before .args in
-    (sym (zeroth (a .text .now)) ∙ ap (wordAt (a .text .now)) (sym (c .if1 .taken)), omega arith)
+    (empty-part (a .text .now) ∙ sym (zeroth (a .text .now)) ∙ ap (wordAt (a .text .now)) (sym (c .if1 .taken)), (omega arith, omega arith))
 
 loop-holds : tie.Need-loop-holds Inv-loop μ-loop
 loop-holds c = (search needs, search needs, search needs, search needs, begins _ _)
@@ -32,15 +33,12 @@ shared-slice-read-is-separator c = search needs
 is-separator-requires : tie.Need-is-separator-requires Inv-loop μ-loop
 is-separator-requires c κs = search needs
 
-sub-t15 : tie.Need-sub-t15 Inv-loop μ-loop
-sub-t15 c = search needs
-
 returns-2 : tie.Need-returns-2 Inv-loop μ-loop
 returns-2 c =
     let g = c .before .before .before in
     let inv = g .before .before .before .loop .inv in
     let found = is-found _ _ _ _ (inv .0) (g .before .before .loop-test .taken) (sym (g .is-separator .ensures) ∙ c .before .before .if2 .taken) (c .before .if3 .taken) (c .if4 .taken) in
-    (sym found ∙ inv .4, omega arith)
+    (sym found ∙ inv .4, (omega arith, omega arith))
 
 sub-left : tie.Need-sub-left Inv-loop μ-loop
 sub-left c = search needs
@@ -72,14 +70,11 @@ loop-again c =
     (λ w. (omega arith, omega arith, omega arith, omega arith, cc (goes-on _ (l .loop .left) _ _ (inv .0) below (sym (g .is-separator .ensures) ∙ w .0 .left))))
     (c .if2 .came)
 
-sub-t17 : tie.Need-sub-t17 Inv-loop μ-loop
-sub-t17 c = search needs
-
 returns-3 : tie.Need-returns-3 Inv-loop μ-loop
 returns-3 c =
     let inv = c .before .before .before .loop .inv in
     let all = le-antisymm (inv .1) (c .before .before .loop-test .left) in
-    (sym (ends-found _ _ _ _ (inv .0) all (c .before .if5 .taken) (c .if6 .taken)) ∙ inv .4, omega arith)
+    (sym (ends-found _ _ _ _ (inv .0) all (c .before .if5 .taken) (c .if6 .taken)) ∙ inv .4, (omega arith, omega arith))
 
 returns-4 : tie.Need-returns-4 Inv-loop μ-loop
 returns-4 c =
@@ -87,13 +82,14 @@ returns-4 c =
     let inv = l .loop .inv in
     let all = le-antisymm (inv .1) (c .before .before .loop-test .left) in
     let more : 1 < l .loop .left = omega (arith, c .if6 .left) in
-    (sym (ends-short _ _ _ _ (inv .0) all (c .before .if5 .taken) more) ∙ inv .4, omega arith)
+    (empty-part (l .before .before .before .args .text .now) ∙ sym (ends-short _ _ _ _ (inv .0) all (c .before .if5 .taken) more) ∙ inv .4, (omega arith, omega arith))
 
 returns-5 : tie.Need-returns-5 Inv-loop μ-loop
 returns-5 c =
-    let inv = c .before .before .loop .inv in
+    let l = c .before .before in
+    let inv = l .loop .inv in
     let all = le-antisymm (inv .1) (c .before .loop-test .left) in
-    (sym (ends-between _ _ _ _ (inv .0) all (c .if5 .left)) ∙ inv .4, omega arith)
+    (empty-part (l .before .before .before .args .text .now) ∙ sym (ends-between _ _ _ _ (inv .0) all (c .if5 .left)) ∙ inv .4, (omega arith, omega arith))
 
 pub locate-spec : {M : Type 1} → statement M
 locate-spec =
@@ -105,14 +101,12 @@ locate-spec =
     loop-holds
     shared-slice-read-is-separator
     is-separator-requires
-    sub-t15
     returns-2
     sub-left
     add-start
     add-i
     loop-less
     loop-again
-    sub-t17
     returns-3
     returns-4
     returns-5)
