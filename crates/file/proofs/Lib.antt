@@ -4,3 +4,6 @@ pub mod Joins
 pub mod Splits
 pub mod Cases
 pub mod Filed
+pub mod Asked
+mod Planned
+mod Promised

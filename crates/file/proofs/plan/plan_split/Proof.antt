@@ -1,0 +1,50 @@
+-- `file::plan::plan_split` meets its contract: a check that fails has a no to a premise of `SplitPlan`.
+-- Assumes nothing.
+use native.Mathlib.Omega.{arith}
+use mathlib.Core.Path.{_≡_, sym, _∙_}
+use borrow.Author.Needs.{needs}
+use borrow.Author.Tests.{not-true, not-false, ltb-true}
+use Rattle.file.proofs.Asked.{block-of, not-block, not-below}
+use Rattle.file.proofs.Planned.{a-split, difference-in}
+use Rattle.file.proofs.plan.plan_split.Statement.{statement}
+use Rattle.file.proofs.plan.plan_split.Tie as tie
+
+shared-slice-read-node : tie.Need-shared-slice-read-node
+shared-slice-read-node c = search needs
+
+sub-is-block : tie.Need-sub-is-block
+sub-is-block c = search needs
+
+is-block-requires : tie.Need-is-block-requires
+is-block-requires c κs = search needs
+
+returns : tie.Need-returns
+returns c = ((λ x y z. not-block _ _ (sym (c .before .is-block .ensures) ∙ not-true _ (c .if1 .taken)) x (omega arith)), tt)
+
+fits-requires : tie.Need-fits-requires
+fits-requires c κs = search needs
+
+returns-2 : tie.Need-returns-2
+returns-2 c = ((λ x y z. not-below _ _ (sym (c .before .fits2 .ensures) ∙ not-true _ (c .if2 .taken)) z), tt)
+
+first-difference-requires : tie.Need-first-difference-requires
+first-difference-requires c κs =
+    let p = c .before .before .before .before .before .before .pre .0 in
+    (p .0, p .1, p .2, ltb-true _ _ (sym (c .before .fits2 .ensures) ∙ not-false _ (c .if2 .left)), λ e. p .3 (sym e))
+
+bit-requires : tie.Need-bit-requires
+bit-requires c κs =
+    let p = c .before .before .before .before .before .before .before .pre .0 in
+    let d = difference-in _ _ _ (p .2) (ltb-true _ _ (sym (c .before .before .fits2 .ensures) ∙ not-false _ (c .before .if2 .left))) (p .3) _ (c .first-difference .ensures) in
+    (d .0, d .1, p .1)
+
+returns-3 : tie.Need-returns-3
+returns-3 c =
+    let r = block-of _ _ (sym (c .before .before .before .before .before .is-block .ensures) ∙ not-false _ (c .before .before .before .before .if1 .left)) in
+    let q = c .before .before .before .before .before .before .before .before .pre .1 in
+    (a-split (c .before .before .before .before .before .before .before .before .args .blocks) (c .before .before .before .before .before .before .before .before .args .width) (c .before .before .before .before .before .before .before .before .args .links .now) (c .before .before .before .before .before .before .before .before .args .signature) (c .before .before .before .before .before .before .before .before .args .link) (c .before .before .before .before .before .before .before .before .args .leaf) (c .before .before .before .before .before .before .before .before .args .other) _ _ (c .before .first-difference .ensures) (c .bit .ensures .0), (q .3, q .2, r .0, omega arith, c .bit .ensures .1))
+
+pub plan-split-spec : {M : Type 1} → statement M
+plan-split-spec =
+    tie.close
+    (tie.spec shared-slice-read-node sub-is-block is-block-requires returns fits-requires returns-2 first-difference-requires bit-requires returns-3)

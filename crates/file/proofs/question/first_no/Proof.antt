@@ -1,0 +1,48 @@
+-- `file::question::first_no` meets its contract: at each return the answers so far say which question is the first with a no.
+-- Assumes nothing.
+use native.Mathlib.Omega.{arith}
+use mathlib.Core.Path.{_≡_, sym, _∙_}
+use lib.ListN.{length}
+use borrow.Author.Needs.{needs}
+use borrow.Author.Tests.{not-true, not-false}
+use Rattle.file.proofs.Asked.{block-of, refuses-4, refuses-5, refuses-6, refuses-7, refuses-none}
+use Rattle.file.proofs.question.first_no.Statement.{statement}
+use Rattle.file.proofs.question.first_no.Tie as tie
+
+tables-fit-requires : tie.Need-tables-fit-requires
+tables-fit-requires c κs = search needs
+
+returns : tie.Need-returns
+returns c = let a = c .before .before .before .before .args in refuses-4 (a .signatures .now) (a .links .now) (a .block) (a .signature) (sym (c .before .tables-fit .ensures .0) ∙ not-true _ (c .if1 .taken))
+
+is-block-requires : tie.Need-is-block-requires
+is-block-requires c κs = search needs
+
+returns-2 : tie.Need-returns-2
+returns-2 c = let a = c .before .before .before .before .before .before .args in refuses-5 (a .signatures .now) (a .links .now) (a .block) (a .signature) (sym (c .before .before .before .tables-fit .ensures .0) ∙ not-false _ (c .before .before .if1 .left)) (sym (c .before .is-block .ensures) ∙ not-true _ (c .if2 .taken))
+
+shared-slice-read-fits : tie.Need-shared-slice-read-fits
+shared-slice-read-fits c = let f = c .before .before .before .before .tables-fit .ensures .1 (not-false _ (c .before .before .before .if1 .left)) in omega (arith, f .links-long, f .blocks-from)
+
+fits-requires : tie.Need-fits-requires
+fits-requires c κs = search needs
+
+returns-3 : tie.Need-returns-3
+returns-3 c = let a = c .before .before .before .before .before .before .before .before .before .args in refuses-6 (a .signatures .now) (a .links .now) (a .block) (a .signature) (sym (c .before .before .before .before .before .before .tables-fit .ensures .0) ∙ not-false _ (c .before .before .before .before .before .if1 .left)) (sym (c .before .before .before .before .is-block .ensures) ∙ not-false _ (c .before .before .before .if2 .left)) (sym (c .before .fits2 .ensures) ∙ not-true _ (c .if3 .taken))
+
+filed-of-requires : tie.Need-filed-of-requires
+filed-of-requires c κs =
+    let f = c .before .before .before .before .before .before .tables-fit .ensures .1 (not-false _ (c .before .before .before .before .before .if1 .left)) in
+    let r = block-of (c .before .before .before .before .before .before .before .before .before .args .block) (length (c .before .before .before .before .before .before .before .before .before .args .signatures .now)) (sym (c .before .before .before .before .is-block .ensures) ∙ not-false _ (c .before .before .before .if2 .left)) in
+    omega (arith, f .links-long, r)
+
+returns-4 : tie.Need-returns-4
+returns-4 c = let a = c .before .before .before .before .before .before .before .before .before .before .before .args in refuses-7 (a .signatures .now) (a .links .now) (a .block) (a .signature) (sym (c .before .before .before .before .before .before .before .before .tables-fit .ensures .0) ∙ not-false _ (c .before .before .before .before .before .before .before .if1 .left)) (sym (c .before .before .before .before .before .before .is-block .ensures) ∙ not-false _ (c .before .before .before .before .before .if2 .left)) (sym (c .before .before .before .fits2 .ensures) ∙ not-false _ (c .before .before .if3 .left)) (λ z. c .if4 .taken (c .before .filed-of .ensures ∙ z))
+
+returns-5 : tie.Need-returns-5
+returns-5 c = let a = c .before .before .before .before .before .before .before .before .before .before .before .args in refuses-none (a .signatures .now) (a .links .now) (a .block) (a .signature) (sym (c .before .before .before .before .before .before .before .before .tables-fit .ensures .0) ∙ not-false _ (c .before .before .before .before .before .before .before .if1 .left)) (sym (c .before .before .before .before .before .before .is-block .ensures) ∙ not-false _ (c .before .before .before .before .before .if2 .left)) (sym (c .before .before .before .fits2 .ensures) ∙ not-false _ (c .before .before .if3 .left)) (sym (c .before .filed-of .ensures) ∙ c .if4 .left)
+
+pub first-no-spec : {M : Type 1} → statement M
+first-no-spec =
+    tie.close
+    (tie.spec tables-fit-requires returns is-block-requires returns-2 shared-slice-read-fits fits-requires returns-3 filed-of-requires returns-4 returns-5)

@@ -1,0 +1,90 @@
+// The stores of a filing, in the definition's order: one function for each kind of plan.
+ghost use Prim.Native.Nat.{_≤_, _<_};
+ghost use mathlib.Core.Path.{_≡_};
+ghost use lib.ListN.{length};
+ghost use Rattle.model.specs.Tables.{linksOf, countOf, filedAt};
+ghost use Rattle.model.specs.Stores.{stores};
+ghost use Rattle.model.specs.File.{firstStores, chainStores, splitStores};
+ghost use Rattle.file.specs.Plan.{PlanFits, isPlan, planStores};
+use crate::plan::Plan;
+
+// The root becomes the leaf.
+fn store_first(links: &mut [u32], block: u32)
+    requires { ⌜ (1 ≤ block) × (filedAt block < length (now links)) × (countOf (now links) < 65535) ⌝ }
+    ensures { λ _. ⌜ now (links .exit) ≡ stores (now (links .entry)) (firstStores (now (links .entry)) block) ⌝ }
+{
+    let b = block as usize;
+    let count = links[4];
+    links[2 * b + 4] = 1;
+    links[4] = count + 1;
+    links[2 * b + 3] = 0;
+    links[2] = block;
+}
+
+// The block goes directly after the head in its chain.
+fn store_join(links: &mut [u32], block: u32, head: u32)
+    requires { ⌜ (1 ≤ block) × (filedAt block < length (now links)) × (countOf (now links) < 65535) × (filedAt head < length (now links)) ⌝ }
+    ensures { λ _. ⌜ now (links .exit) ≡ stores (now (links .entry)) (chainStores (now (links .entry)) block head) ⌝ }
+{
+    let b = block as usize;
+    let h = head as usize;
+    let count = links[4];
+    let next = links[2 * h + 3];
+    links[2 * b + 4] = 1;
+    links[4] = count + 1;
+    links[2 * b + 3] = next;
+    links[2 * h + 3] = block;
+}
+
+// The first free node takes the leaf's place: the block goes to its side, the leaf to the other.
+fn store_split(
+    links: &mut [u32],
+    blocks: usize,
+    block: u32,
+    link: usize,
+    leaf: u32,
+    node: u32,
+    position: u32,
+    side: u32,
+)
+    requires { ⌜ (blocks ≤ 65535) × (length (now links) ≡ linksOf blocks) × (countOf (now links) < 65535) ⌝ }
+    requires { ⌜ (1 ≤ block) × (block ≤ blocks) × (link < linksOf blocks) × (1 ≤ node) × (node < blocks) × (side ≤ 1) ⌝ }
+    ensures { λ _. ⌜ now (links .exit) ≡ stores (now (links .entry)) (splitStores blocks (now (links .entry)) block link leaf node position side) ⌝ }
+{
+    let b = block as usize;
+    let row = 2 * blocks + 3 * node as usize;
+    let e = side as usize;
+    let count = links[4];
+    let free = links[row + 3];
+    links[2 * b + 4] = 1;
+    links[4] = count + 1;
+    links[2 * b + 3] = 0;
+    links[3] = free;
+    links[row + 2] = position;
+    links[row + (3 + e)] = block;
+    links[row + (3 + (1 - e))] = leaf;
+    links[link] = blocks as u32 + node;
+}
+
+// Makes the stores of a plan, and says whether there is one.
+pub fn carry_out(links: &mut [u32], blocks: usize, block: u32, plan: Plan) -> bool
+    requires { ⌜ (blocks ≤ 65535) × (length (now links) ≡ linksOf blocks) × (1 ≤ block) × (block ≤ blocks) ⌝ }
+    requires { ⌜ PlanFits blocks (now links) plan ⌝ }
+    ensures { λ r. ⌜ (r ≡ isPlan plan) × (now (links .exit) ≡ stores (now (links .entry)) (planStores blocks (now (links .entry)) block plan)) ⌝ }
+{
+    match plan {
+        Plan::Unfit => false,
+        Plan::First => {
+            store_first(links, block);
+            true
+        }
+        Plan::Join(head) => {
+            store_join(links, block, head);
+            true
+        }
+        Plan::Split(link, leaf, node, position, side) => {
+            store_split(links, blocks, block, link, leaf, node, position, side);
+            true
+        }
+    }
+}
