@@ -4,11 +4,11 @@ use Prim.Native.Nat.{ℕ, _^_, _≤_, _<_}
 use native.Mathlib.Omega.{arith}
 use mathlib.Core.Path.{_≡_, refl, sym, _∙_, ap, subst}
 use mathlib.Core.Logic.{_≢_}
-use mathlib.Core.Bool.{Bool, true, false, _&&_}
+use mathlib.Core.Bool.{true, false, _&&_}
 use mathlib.Core.List.{List}
 use lib.Dec.{leb}
 use lib.ListN.{length}
-use Rattle.signature.proofs.Difference.{IsFirst, first-is}
+use Rattle.signature.proofs.Difference.{first-is}
 use Rattle.model.specs.Signature.{bitAt, firstDifference}
 use Rattle.model.specs.Tables.{word, rootAt, widthOf, rootOf, freeOf, countOf, filedOf, signatureOf}
 use Rattle.model.specs.Sound.{Sound}
@@ -16,12 +16,12 @@ use Rattle.model.specs.Stores.{stores}
 use Rattle.model.specs.File.{fileLinks}
 use Rattle.tables.specs.Walk.{Ends}
 use Rattle.tables.proofs.Walks.{spot-leaf, sound-fits}
-use Rattle.file.specs.Plan.{isPlan, planStores, PlanFits, SplitPlan, Plans}
+use Rattle.file.specs.Plan.{isPlan, planStores, SplitPlan, Plans}
 use Rattle.file.specs.declared.plan.Plan.{Plan}
 use Rattle.file.specs.declared.plan.Plan.the-variants.{Unfit, First, Join, Split}
 use Rattle.file.proofs.Good.{Fileable}
 use Rattle.file.proofs.Asked.{not-block}
-use Rattle.file.proofs.Cases.{links-first, links-join, links-split, room, AtLeaf, at-leaf, Spare, spare, some-tree}
+use Rattle.file.proofs.Cases.{links-first, links-join, links-split, room, at-leaf, spare, some-tree}
 
 -- the split that the code makes
 pub a-split : (B F : ℕ) (links : List ℕ) (s at h a d e : ℕ) → d ≡ firstDifference F s a → e ≡ bitAt F s d → SplitPlan B F links s at h a (Split at h (freeOf links) d e)

@@ -2,15 +2,15 @@
 -- Assumes nothing.
 use Prim.Native.Nat.{ℕ, _-_}
 use native.Mathlib.Omega.{arith}
-use mathlib.Core.Path.{_≡_, refl, sym, _∙_, ap}
+use mathlib.Core.Path.{_≡_, refl, _∙_, ap}
 use mathlib.Core.Logic.{inl, inr, _≢_}
 use mathlib.Core.Bool.{Bool, true, false}
-use mathlib.Core.List.{List, []}
+use mathlib.Core.List.{List}
 use lib.ListN.{length, length-set}
 use Rattle.model.specs.Stores.{stores}
 use Rattle.model.specs.File.{fileSignatures}
 use Rattle.model.specs.Questions.{asksTables, fileRefusal}
-use Rattle.model.specs.Promises.{FilePromise, Changes}
+use Rattle.model.specs.Promises.{FilePromise}
 use Rattle.model.proofs.Stores.{length-stores}
 use Rattle.file.specs.Plan.{isPlan, planStores, Plans}
 use Rattle.file.specs.declared.plan.Plan.{Plan}

@@ -1,23 +1,33 @@
 // The stores of a filing, in the definition's order: one function for each kind of plan.
 ghost use Prim.Native.Nat.{_≤_, _<_};
 ghost use mathlib.Core.Path.{_≡_};
+ghost use mathlib.Core.List.{[], _∷_};
 ghost use lib.ListN.{length};
-ghost use Rattle.model.specs.Tables.{linksOf, countOf, filedAt};
-ghost use Rattle.model.specs.Stores.{stores};
-ghost use Rattle.model.specs.File.{firstStores, chainStores, splitStores};
+ghost use Rattle.model.specs.Tables.{linksOf, countOf, nextAt, filedAt};
+ghost use Rattle.model.specs.Stores.{_↤_, stores};
+ghost use Rattle.model.specs.File.{filingStores, firstStores, chainStores, splitStores};
 ghost use Rattle.file.specs.Plan.{PlanFits, isPlan, planStores};
 use crate::plan::Plan;
+
+// The block's row and the count: the stores of every filing.
+fn store_row(links: &mut [u32], block: u32, next: u32)
+    requires { ⌜ (1 ≤ block) × (filedAt block < length (now links)) × (countOf (now links) < 65535) ⌝ }
+    ensures words { λ _. ⌜ now (links .exit) ≡ stores (now (links .entry)) (filingStores (now (links .entry)) block ((nextAt block ↤ next) ∷ [])) ⌝ }
+    ensures long { λ _. ⌜ length (now (links .exit)) ≡ length (now (links .entry)) ⌝ }
+{
+    let b = block as usize;
+    let count = links[4];
+    links[2 * b + 4] = 1;
+    links[4] = count + 1;
+    links[2 * b + 3] = next;
+}
 
 // The root becomes the leaf.
 fn store_first(links: &mut [u32], block: u32)
     requires { ⌜ (1 ≤ block) × (filedAt block < length (now links)) × (countOf (now links) < 65535) ⌝ }
     ensures { λ _. ⌜ now (links .exit) ≡ stores (now (links .entry)) (firstStores (now (links .entry)) block) ⌝ }
 {
-    let b = block as usize;
-    let count = links[4];
-    links[2 * b + 4] = 1;
-    links[4] = count + 1;
-    links[2 * b + 3] = 0;
+    store_row(links, block, 0);
     links[2] = block;
 }
 
@@ -26,13 +36,9 @@ fn store_join(links: &mut [u32], block: u32, head: u32)
     requires { ⌜ (1 ≤ block) × (filedAt block < length (now links)) × (countOf (now links) < 65535) × (filedAt head < length (now links)) ⌝ }
     ensures { λ _. ⌜ now (links .exit) ≡ stores (now (links .entry)) (chainStores (now (links .entry)) block head) ⌝ }
 {
-    let b = block as usize;
     let h = head as usize;
-    let count = links[4];
     let next = links[2 * h + 3];
-    links[2 * b + 4] = 1;
-    links[4] = count + 1;
-    links[2 * b + 3] = next;
+    store_row(links, block, next);
     links[2 * h + 3] = block;
 }
 
@@ -51,18 +57,14 @@ fn store_split(
     requires { ⌜ (1 ≤ block) × (block ≤ blocks) × (link < linksOf blocks) × (1 ≤ node) × (node < blocks) × (side ≤ 1) ⌝ }
     ensures { λ _. ⌜ now (links .exit) ≡ stores (now (links .entry)) (splitStores blocks (now (links .entry)) block link leaf node position side) ⌝ }
 {
-    let b = block as usize;
-    let row = 2 * blocks + 3 * node as usize;
+    let words = 2 * blocks + 3 * node as usize;
     let e = side as usize;
-    let count = links[4];
-    let free = links[row + 3];
-    links[2 * b + 4] = 1;
-    links[4] = count + 1;
-    links[2 * b + 3] = 0;
+    let free = links[words + 3];
+    store_row(links, block, 0);
     links[3] = free;
-    links[row + 2] = position;
-    links[row + (3 + e)] = block;
-    links[row + (3 + (1 - e))] = leaf;
+    links[words + 2] = position;
+    links[words + (3 + e)] = block;
+    links[words + (3 + (1 - e))] = leaf;
     links[link] = blocks as u32 + node;
 }
 

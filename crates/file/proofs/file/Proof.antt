@@ -1,6 +1,6 @@
 -- `file::file` meets its promise: a first no is the answer, and otherwise the promise is that of `file_passed`.
 -- Assumes nothing.
-use mathlib.Core.Path.{_≡_, sym, _∙_}
+use mathlib.Core.Path.{sym, _∙_}
 use borrow.Author.Needs.{needs}
 use Rattle.file.proofs.Promised.{promise-refused}
 use Rattle.file.proofs.file.Statement.{statement}

@@ -1,10 +1,10 @@
 -- `file::file_passed` meets its promise: without a plan it answers 11 and nothing was stored.
 -- Assumes nothing.
 use native.Mathlib.Omega.{arith}
-use mathlib.Core.Path.{_≡_, sym, _∙_}
+use mathlib.Core.Path.{sym, _∙_}
 use borrow.Author.Needs.{needs}
 use borrow.Author.Tests.{not-true}
-use Rattle.file.proofs.Asked.{Passed, passed}
+use Rattle.file.proofs.Asked.{passed}
 use Rattle.file.proofs.Promised.{promise-eleven, promise-done}
 use Rattle.file.proofs.file_passed.Statement.{statement}
 use Rattle.file.proofs.file_passed.Tie as tie

@@ -1,7 +1,7 @@
 -- `file::plan::plan_split` meets its contract: a check that fails has a no to a premise of `SplitPlan`.
 -- Assumes nothing.
 use native.Mathlib.Omega.{arith}
-use mathlib.Core.Path.{_≡_, sym, _∙_}
+use mathlib.Core.Path.{sym, _∙_}
 use borrow.Author.Needs.{needs}
 use borrow.Author.Tests.{not-true, not-false, ltb-true}
 use Rattle.file.proofs.Asked.{block-of, not-block, not-below}

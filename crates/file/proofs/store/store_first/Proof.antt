@@ -1,69 +1,28 @@
--- `file::store::store_first` meets its contract: its stores, in their order, are the definition's.
+-- `file::store::store_first` meets its contract: the row's stores, then the root's.
 -- Assumes nothing.
 use native.Mathlib.Omega.{arith}
-use mathlib.Core.Path.{refl}
 use lib.ListN.{length-set}
 use borrow.Author.Needs.{needs}
 use Rattle.file.proofs.store.store_first.Statement.{statement}
 use Rattle.file.proofs.store.store_first.Tie as tie
 
-slice-read-count : tie.Need-slice-read-count
-slice-read-count c = search needs
-
-mul-links : tie.Need-mul-links
-mul-links c = search needs
-
-add-links : tie.Need-add-links
-add-links c = search needs
-
-mul-links-2 : tie.Need-mul-links-2
-mul-links-2 c = search needs
+store-row-requires : tie.Need-store-row-requires
+store-row-requires c κs = search needs
 
 slice-write-links : tie.Need-slice-write-links
-slice-write-links c = search needs
-
-add-links-2 : tie.Need-add-links-2
-add-links-2 c = search needs
-
-slice-write-links-2 : tie.Need-slice-write-links-2
-slice-write-links-2 c = simp length-set (omega arith)
-
-mul-links-3 : tie.Need-mul-links-3
-mul-links-3 c = search needs
-
-add-links-3 : tie.Need-add-links-3
-add-links-3 c = search needs
-
-mul-links-4 : tie.Need-mul-links-4
-mul-links-4 c = search needs
-
-slice-write-links-3 : tie.Need-slice-write-links-3
-slice-write-links-3 c = simp length-set (omega arith)
-
-slice-write-links-4 : tie.Need-slice-write-links-4
-slice-write-links-4 c = simp length-set (omega arith)
+slice-write-links c = omega (arith, c .before .before .store-row .ensures .1)
 
 same-length : tie.Need-same-length
-same-length c = simp length-set
+same-length c = simp length-set (c .before .before .store-row .ensures .1)
 
 returns : tie.Need-returns
-returns c = refl
+returns c = rw (c .before .before .store-row .ensures .0)
 
 pub store-first-spec : {M : Type 1} → statement M
 store-first-spec =
     tie.close
     (tie.spec
-    slice-read-count
-    mul-links
-    add-links
-    mul-links-2
+    store-row-requires
     slice-write-links
-    add-links-2
-    slice-write-links-2
-    mul-links-3
-    add-links-3
-    mul-links-4
-    slice-write-links-3
-    slice-write-links-4
     same-length
     returns)
