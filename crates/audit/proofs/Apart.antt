@@ -8,17 +8,14 @@ use mathlib.Core.Logic.{_⊎_, inl, inr}
 use mathlib.Core.List.{List, [], _∷_, _++_, List·Memᴰ, List·Memᴰ·cases-cons, List·Memᴰ·not-nil, List·Memᴰ·append-cases}
 use Rattle.model.specs.Tree.{Edge, edge}
 use Rattle.model.specs.Tables.{rootOf, freeOf, positionOf, leftOf, rightOf}
-use Rattle.model.specs.Sound.{Shape, tip, fork, Rooted, none, some, Chain, Holds, HoldsRoot, nodes, blocks, nodesIn, blocksIn, Placed, PlacedRoot, FreeChain}
+use Rattle.model.specs.Sound.{Shape, tip, fork, Rooted, none, some, Holds, HoldsRoot, nodes, nodesIn, blocksIn, Placed, PlacedRoot, FreeChain}
 use Rattle.model.proofs.Pigeon.{Distinct, distinct-append, downFrom, downFrom-has}
-use Rattle.tables.proofs.Shapes.{chain-no-return, blocks-range, nodes-range, blocks-placed, blocks-apart, nodes-apart, not-below}
+use Rattle.tables.proofs.Shapes.{blocks-range, nodes-range, blocks-placed}
+use Rattle.tables.proofs.Distinct.{blocks-distinct, nodes-distinct}
 use Rattle.tables.proofs.Counts.{free-range, free-no-return}
 use Rattle.audit.proofs.Counting.{filedList, filed-has}
 
 module _ (B : ℕ) (L : List ℕ) where
-  chain-distinct : (h : ℕ) (cs : List ℕ) → Chain B L h cs → Distinct (h ∷ cs)
-  chain-distinct h [] q = (List·Memᴰ·not-nil, tt)
-  chain-distinct h (c ∷ cs) q = (chain-no-return B L h (c ∷ cs) q, chain-distinct c cs (q .3))
-
   free-distinct : (r : ℕ) (is : List ℕ) → FreeChain B L r is → Distinct is
   free-distinct r [] q = tt
   free-distinct r (i ∷ is) q = (free-no-return B L r i is q, free-distinct (leftOf B L i) is (q .5))
@@ -32,29 +29,6 @@ module _ (B : ℕ) (L : List ℕ) where
       go (inr n) f = f n
 
   module _ (F : ℕ) (S : List ℕ) where
-    blocks-distinct : (path : List Edge) (t : Shape) (r : ℕ) → Holds B L r t → Placed F S L path t → Distinct (blocks t)
-    blocks-distinct path (tip h cs) r q pl = chain-distinct h cs (q .3)
-    blocks-distinct path (fork i p l k) r q pl =
-        distinct-append (blocks l) (blocks k)
-        (blocks-distinct (edge p 0 ∷ path) l (leftOf B L i) (q .4) (pl .3))
-        (blocks-distinct (edge p 1 ∷ path) k (rightOf B L i) (q .5) (pl .4))
-        (blocks-apart B L F S path i p l k pl)
-
-    nodes-distinct : (path : List Edge) (t : Shape) (r : ℕ) → Holds B L r t → Placed F S L path t → Distinct (nodes t)
-    nodes-distinct path (tip h cs) r q pl = tt
-    nodes-distinct path (fork i p l k) r q pl =
-        let nb = not-below B L i p l k r q in (
-          (λ m. go nb (List·Memᴰ·append-cases (nodes l) m)),
-          distinct-append (nodes l) (nodes k)
-              (nodes-distinct (edge p 0 ∷ path) l (leftOf B L i) (q .4) (pl .3))
-              (nodes-distinct (edge p 1 ∷ path) k (rightOf B L i) (q .5) (pl .4))
-              (nodes-apart B L F S path i p l k r q pl),
-        )
-      where
-        go : (List·Memᴰ i (nodes l) → ⊥) × (List·Memᴰ i (nodes k) → ⊥) → List·Memᴰ i (nodes l) ⊎ List·Memᴰ i (nodes k) → ⊥
-        go nb (inl m) = nb .0 m
-        go nb (inr m) = nb .1 m
-
     -- a node of the tree tests a position
     nodes-test : (path : List Edge) (t : Shape) (r : ℕ) → Holds B L r t → Placed F S L path t → (j : ℕ) → List·Memᴰ j (nodes t) → 1 ≤ positionOf B L j
     nodes-test path (tip h cs) r q pl j m = absurd (List·Memᴰ·not-nil m)

@@ -103,7 +103,7 @@ module _ (S L : List ℕ) where
   pub record ChainYes (s k b left : ℕ) : Type 0 where
     pub list : List ℕ
     pub from : From (length S) L b list
-    pub good : (c : ℕ) → List·Memᴰ c list → (filedOf L c ≡ 1) × (signatureOf S c ≡ s)
+    pub good : Good s list
     pub used : length list + left ≡ k
 
   abbrev pub ChainIs : ℕ → ℕ → ℕ → Chained → Type 0

@@ -44,10 +44,10 @@ row-whole F s x f r = go (ℕ-discrete f 0)
 
 module _ (S L : List ℕ) where
   -- block b's row
-  abbrev Row : ℕ → Type 0
+  abbrev pub Row : ℕ → Type 0
   Row b = RowIs (widthOf L) (signatureOf S b) (nextOf L b) (filedOf L b)
 
-  pub rows-yes : (n : ℕ) → rowsOk S L n ≡ true → (b : ℕ) → 1 ≤ b → b ≤ n → RowIs (widthOf L) (signatureOf S b) (nextOf L b) (filedOf L b)
+  pub rows-yes : (n : ℕ) → rowsOk S L n ≡ true → (b : ℕ) → 1 ≤ b → b ≤ n → Row b
   unfolding rowsOk
   rows-yes zero e b h k = absurd (omega arith)
   rows-yes (suc n) e b h k = let p = pick-true (rowsOk S L n) _ e in go (ℕ-discrete b (suc n)) (row-yes _ _ _ _ (p .1)) (rows-yes n (p .0) b h)
@@ -56,7 +56,7 @@ module _ (S L : List ℕ) where
       go (yes i) x ih = subst Row (sym i) x
       go (no ne) x ih = ih (omega arith)
 
-  pub rows-whole : (n : ℕ) → ((b : ℕ) → 1 ≤ b → b ≤ n → RowIs (widthOf L) (signatureOf S b) (nextOf L b) (filedOf L b)) → rowsOk S L n ≡ true
+  pub rows-whole : (n : ℕ) → ((b : ℕ) → 1 ≤ b → b ≤ n → Row b) → rowsOk S L n ≡ true
   unfolding rowsOk
   rows-whole zero h = refl
   rows-whole (suc n) h = simp (rows-whole n (λ b x y. h b x (omega arith)), row-whole _ _ _ _ (h (suc n) (omega arith) (omega arith)))

@@ -19,7 +19,7 @@ use Rattle.audit.specs.declared.chain.Chained.{Chained}
 use Rattle.audit.specs.declared.walk.Lent.{Lent}
 use Rattle.audit.specs.declared.walk.Part.{Part}
 use Rattle.audit.specs.declared.walk.Tested.{Tested}
-use Rattle.audit.specs.declared.walk.Node.{Node}
+use Rattle.audit.specs.declared.node.Node.{Node}
 use Rattle.audit.specs.Audit.{pick, chainTwin, failed, leafOf, leafTwin, unfit, lookTwin, passedBy, nodeLess, sidesTwin, walkTwin}
 
 -- a weight by a shift

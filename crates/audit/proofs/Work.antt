@@ -16,7 +16,7 @@ use Rattle.audit.specs.declared.chain.Chained.{Chained}
 use Rattle.audit.specs.declared.walk.Lent.{Lent}
 use Rattle.audit.specs.declared.walk.Part.{Part}
 use Rattle.audit.specs.declared.walk.Tested.{Tested}
-use Rattle.audit.specs.declared.walk.Node.{Node}
+use Rattle.audit.specs.declared.node.Node.{Node}
 use Rattle.audit.specs.Audit.{pick, rowsOk, blockOk, stuck, chainTwin, failed, leafOf, leafTwin, lookTwin, passedBy, nodeLess, thenRight, sidesTwin, nodeTwin, walkTwin, untestedAll, treeTwin, freeOk, lentTree}
 use Rattle.audit.specs.Work.{Seen, none, one, plus, chainSeen, leafSeen, sidesSeen, nodeSeen, walkSeen, treeSeen, freeSeen, restSeen, comesToTree, treeWork, freeWork}
 use Rattle.audit.proofs.Picks.{no-bool, pick-true}

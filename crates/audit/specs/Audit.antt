@@ -16,7 +16,7 @@ use Rattle.audit.specs.declared.chain.Chained.{Chained}
 use Rattle.audit.specs.declared.walk.Lent.{Lent}
 use Rattle.audit.specs.declared.walk.Part.{Part}
 use Rattle.audit.specs.declared.walk.Tested.{Tested}
-use Rattle.audit.specs.declared.walk.Node.{Node}
+use Rattle.audit.specs.declared.node.Node.{Node}
 
 -- the first of two where the test holds, else the second
 abbrev pub pick {ℓ} : {A : Type ℓ} → Bool → A → A → A

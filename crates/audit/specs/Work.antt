@@ -13,7 +13,7 @@ use Rattle.model.specs.Questions.{asksTables, tablesFit}
 use Rattle.audit.specs.declared.walk.Lent.{Lent}
 use Rattle.audit.specs.declared.walk.Part.{Part}
 use Rattle.audit.specs.declared.walk.Tested.{Tested}
-use Rattle.audit.specs.declared.walk.Node.{Node}
+use Rattle.audit.specs.declared.node.Node.{Node}
 use Rattle.audit.specs.Audit.{pick, rowsOk, blockOk, lookTwin, passedBy, nodeLess, walkTwin, untestedAll, treeTwin, freeOk, lentTree}
 
 -- nodes, and blocks on chains

@@ -16,6 +16,7 @@ pub(crate) fn sound(signatures: &[u64], links: &[u32]) -> bool
     if !rows.fit {
         return false;
     }
+    // word 4 counts the filed blocks
     if rows.count == links[4] {
         let lent = Lent {
             nodes: blocks as u32 - 1,

@@ -2,6 +2,7 @@
 mod answer;
 mod chain;
 mod free;
+mod node;
 mod rows;
 mod walk;
 

@@ -3,12 +3,9 @@
 ghost use mathlib.Core.Path.{_≡_};
 ghost use Prim.Native.Nat.{_≤_};
 ghost use lib.ListN.{length};
-ghost use Rattle.model.specs.Limits.{mostBlocks, widest};
-ghost use Rattle.model.specs.Tables.{linksOf, widthOf};
-ghost use Rattle.audit.specs.Audit.{Fits, failed, leafTwin, unfit, lookTwin, passedBy, walkTwin, treeTwin};
+ghost use Rattle.audit.specs.Audit.{Fits, failed, leafTwin, passedBy, walkTwin, treeTwin};
 use super::chain::follow;
-use tables::nodes::position_of;
-use tables::nodes::side_of;
+use super::node::look;
 use tables::rows::signature_of;
 
 // The nodes, and the blocks on chains, that a walk may look at.
@@ -27,13 +24,6 @@ pub struct Part {
 pub struct Tested {
     pub mask: u64,
     pub edges: u64,
-}
-
-// A node that may stand here: the weight of its position, and its two references. An unfit one has weight 0.
-pub struct Node {
-    pub weight: u64,
-    pub left: u32,
-    pub right: u32,
 }
 
 // An unfit subtree.
@@ -78,44 +68,6 @@ pub(crate) fn leaf(
     no_part()
 }
 
-// An unfit node.
-pub(crate) fn no_node() -> Node
-    ensures { λ r. ⌜ r ≡ unfit ⌝ }
-{
-    Node {
-        weight: 0,
-        left: 0,
-        right: 0,
-    }
-}
-
-// The node: its position is 1 to the width, and not tested above it.
-pub(crate) fn look(links: &[u32], blocks: usize, mask: u64, node: usize) -> Node
-    requires { ⌜ (blocks ≤ mostBlocks) × (length (now links) ≡ linksOf blocks) × (widthOf (now links) ≤ widest) ⌝ }
-    ensures { λ r. ⌜ r ≡ lookTwin (now (links .entry)) blocks mask node ⌝ }
-{
-    if blocks <= node {
-        return no_node();
-    }
-    let width = links[0];
-    let position = position_of(links, blocks, node);
-    if position == 0 {
-        return no_node();
-    }
-    if width < position {
-        return no_node();
-    }
-    if signature::is_set(mask, width, position) {
-        return no_node();
-    }
-    let one: u64 = 1;
-    Node {
-        weight: one << (width - position),
-        left: side_of(links, blocks, node, 0),
-        right: side_of(links, blocks, node, 1),
-    }
-}
-
 // The path one edge further, past a position of this weight: the edge is 0 for the left, the weight for the right.
 pub(crate) fn passed(tested: Tested, weight: u64, edge: u64) -> Tested
     ensures { λ r. ⌜ r ≡ passedBy tested weight edge ⌝ }
@@ -153,24 +105,18 @@ pub(crate) fn walk(
     if node.weight == 0 {
         return no_part();
     }
+    let rest = untested - 1;
     let below = Lent {
         nodes: lent.nodes - 1,
         blocks: lent.blocks,
     };
     let left = passed(tested, node.weight, 0);
-    let first = walk(signatures, links, left, node.left, untested - 1, below);
+    let first = walk(signatures, links, left, node.left, rest, below);
     if !first.fit {
         return first;
     }
     let right = passed(tested, node.weight, node.weight);
-    walk(
-        signatures,
-        links,
-        right,
-        node.right,
-        untested - 1,
-        first.left,
-    )
+    walk(signatures, links, right, node.right, rest, first.left)
 }
 
 // The tree from the root.

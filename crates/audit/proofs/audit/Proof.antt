@@ -18,10 +18,18 @@ sound-requires : tie.Need-sound-requires
 sound-requires c κs = c .before .tables-fit .ensures .1 (not-false _ (c .if1 .left))
 
 returns-2 : tie.Need-returns-2
-returns-2 c = subst (AuditPromise _ _) (found-sound _ _ (sym (c .before .before .before .tables-fit .ensures .0) ∙ not-false _ (c .before .before .if1 .left)) (sym (c .before .sound .ensures) ∙ c .if2 .taken)) (promised _ _)
+returns-2 c =
+    let at-sound = c .before in
+    let at-if1 = at-sound .before in
+    let at-tables-fit = at-if1 .before in
+    subst (AuditPromise _ _) (found-sound _ _ (sym (at-tables-fit .tables-fit .ensures .0) ∙ not-false _ (at-if1 .if1 .left)) (sym (at-sound .sound .ensures) ∙ c .if2 .taken)) (promised _ _)
 
 returns-3 : tie.Need-returns-3
-returns-3 c = subst (AuditPromise _ _) (found-unsound _ _ (sym (c .before .before .before .tables-fit .ensures .0) ∙ not-false _ (c .before .before .if1 .left)) (sym (c .before .sound .ensures) ∙ c .if2 .left)) (promised _ _)
+returns-3 c =
+    let at-sound = c .before in
+    let at-if1 = at-sound .before in
+    let at-tables-fit = at-if1 .before in
+    subst (AuditPromise _ _) (found-unsound _ _ (sym (at-tables-fit .tables-fit .ensures .0) ∙ not-false _ (at-if1 .if1 .left)) (sym (at-sound .sound .ensures) ∙ c .if2 .left)) (promised _ _)
 
 pub audit-spec : {M : Type 1} → statement M
 audit-spec =

@@ -22,7 +22,11 @@ no-chain-requires : tie.Need-no-chain-requires Inv-loop μ-loop
 no-chain-requires c κs = search needs
 
 returns : tie.Need-returns Inv-loop μ-loop
-returns c = c .no-chain .ensures ∙ sym (c .before .before .before .loop .inv ∙ chain-none _ _ _ _ _ (c .before .if1 .taken) (pos-ne (c .before .before .loop-test .taken)))
+returns c =
+    let at-if1 = c .before in
+    let at-loop-test = at-if1 .before in
+    let at-loop = at-loop-test .before in
+    c .no-chain .ensures ∙ sym (at-loop .loop .inv ∙ chain-none _ _ _ _ _ (at-if1 .if1 .taken) (pos-ne (at-loop-test .loop-test .taken)))
 
 on-chain-requires : tie.Need-on-chain-requires Inv-loop μ-loop
 on-chain-requires c κs = search needs
@@ -31,7 +35,12 @@ no-chain-requires-2 : tie.Need-no-chain-requires-2 Inv-loop μ-loop
 no-chain-requires-2 c κs = search needs
 
 returns-2 : tie.Need-returns-2 Inv-loop μ-loop
-returns-2 c = c .no-chain2 .ensures ∙ sym (c .before .before .before .before .before .loop .inv ∙ chain-stop _ _ _ _ _ (pos-ne (c .before .before .before .before .loop-test .taken)) (sym (c .before .before .on-chain .ensures) ∙ not-true _ (c .before .if2 .taken)))
+returns-2 c =
+    let at-if2 = c .before in
+    let at-on-chain = at-if2 .before in
+    let at-loop-test = at-on-chain .before .before in
+    let at-loop = at-loop-test .before in
+    c .no-chain2 .ensures ∙ sym (at-loop .loop .inv ∙ chain-stop _ _ _ _ _ (pos-ne (at-loop-test .loop-test .taken)) (sym (at-on-chain .on-chain .ensures) ∙ not-true _ (at-if2 .if2 .taken)))
 
 next-of-requires : tie.Need-next-of-requires Inv-loop μ-loop
 next-of-requires c κs = omega (arith, block-yes _ _ _ _ (sym (c .before .on-chain .ensures) ∙ not-false _ (c .if2 .left)))
@@ -46,7 +55,14 @@ loop-less : tie.Need-loop-less Inv-loop μ-loop
 loop-less c = search needs
 
 loop-again : tie.Need-loop-again Inv-loop μ-loop
-loop-again c = c .before .before .before .before .before .before .loop .inv ∙ chain-go _ _ _ _ _ (c .before .before .before .before .if1 .left) (pos-ne (c .before .before .before .before .before .loop-test .taken)) (sym (c .before .before .before .on-chain .ensures) ∙ not-false _ (c .before .before .if2 .left)) ∙ ap (chainTwin _ _ _ _) (sym (c .wide .ensures ∙ c .before .next-of .ensures))
+loop-again c =
+    let at-next-of = c .before in
+    let at-if2 = at-next-of .before in
+    let at-on-chain = at-if2 .before in
+    let at-if1 = at-on-chain .before in
+    let at-loop-test = at-if1 .before in
+    let at-loop = at-loop-test .before in
+    at-loop .loop .inv ∙ chain-go _ _ _ _ _ (at-if1 .if1 .left) (pos-ne (at-loop-test .loop-test .taken)) (sym (at-on-chain .on-chain .ensures) ∙ not-false _ (at-if2 .if2 .left)) ∙ ap (chainTwin _ _ _ _) (sym (c .wide .ensures ∙ at-next-of .next-of .ensures))
 
 returns-3 : tie.Need-returns-3 Inv-loop μ-loop
 returns-3 c = sym (c .before .loop .inv ∙ chain-end _ _ _ _ _ (le-none (c .loop-test .left)))

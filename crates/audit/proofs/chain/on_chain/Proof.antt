@@ -16,7 +16,11 @@ signature-of-requires : tie.Need-signature-of-requires
 signature-of-requires c κs = search needs
 
 returns-2 : tie.Need-returns-2
-returns-2 c = block-filed _ _ _ _ (c .before .before .before .if1 .left) (c .before .before .filed-of .ensures) (c .before .if2 .taken) _ (c .signature-of .ensures)
+returns-2 c =
+    let at-if2 = c .before in
+    let at-filed-of = at-if2 .before in
+    let at-if1 = at-filed-of .before in
+    block-filed _ _ _ _ (at-if1 .if1 .left) (at-filed-of .filed-of .ensures) (at-if2 .if2 .taken) _ (c .signature-of .ensures)
 
 returns-3 : tie.Need-returns-3
 returns-3 c = sym (block-unfiled _ _ _ _ (c .before .before .if1 .left) (c .before .filed-of .ensures) (c .if2 .left))

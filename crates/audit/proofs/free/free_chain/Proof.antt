@@ -29,10 +29,17 @@ free-fits-requires : tie.Need-free-fits-requires Inv-loop μ-loop
 free-fits-requires c κs = search needs
 
 returns : tie.Need-returns Inv-loop μ-loop
-returns c = sym (c .before .before .before .loop .inv ∙ free-stop _ _ _ _ (c .before .before .loop-test .taken) (sym (c .before .free-fits .ensures) ∙ not-true _ (c .if1 .taken)))
+returns c =
+    let at-free-fits = c .before in
+    let at-loop-test = at-free-fits .before in
+    let at-loop = at-loop-test .before in
+    sym (at-loop .loop .inv ∙ free-stop _ _ _ _ (at-loop-test .loop-test .taken) (sym (at-free-fits .free-fits .ensures) ∙ not-true _ (c .if1 .taken)))
 
 side-of-requires : tie.Need-side-of-requires Inv-loop μ-loop
-side-of-requires c κs = (c .before .before .before .before .before .before .before .pre .2, free-in _ _ _ (sym (c .before .free-fits .ensures) ∙ not-false _ (c .if1 .left)), omega arith)
+side-of-requires c κs =
+    let at-free-fits = c .before in
+    let entry = at-free-fits .before .before .before .before .before .before in
+    (entry .pre .2, free-in _ _ _ (sym (at-free-fits .free-fits .ensures) ∙ not-false _ (c .if1 .left)), omega arith)
 
 wide-requires-2 : tie.Need-wide-requires-2 Inv-loop μ-loop
 wide-requires-2 c κs = search needs
@@ -44,7 +51,13 @@ loop-less : tie.Need-loop-less Inv-loop μ-loop
 loop-less c = search needs
 
 loop-again : tie.Need-loop-again Inv-loop μ-loop
-loop-again c = c .before .before .before .before .before .loop .inv ∙ free-go _ _ _ _ (c .before .before .before .before .loop-test .taken) (sym (c .before .before .before .free-fits .ensures) ∙ not-false _ (c .before .before .if1 .left)) ∙ ap (freeTwin _ _ _) (sym (c .wide2 .ensures ∙ c .before .side-of .ensures))
+loop-again c =
+    let at-side-of = c .before in
+    let at-if1 = at-side-of .before in
+    let at-free-fits = at-if1 .before in
+    let at-loop-test = at-free-fits .before in
+    let at-loop = at-loop-test .before in
+    at-loop .loop .inv ∙ free-go _ _ _ _ (at-loop-test .loop-test .taken) (sym (at-free-fits .free-fits .ensures) ∙ not-false _ (at-if1 .if1 .left)) ∙ ap (freeTwin _ _ _) (sym (c .wide2 .ensures ∙ at-side-of .side-of .ensures))
 
 returns-2 : tie.Need-returns-2 Inv-loop μ-loop
 returns-2 c = sym (c .before .loop .inv ∙ free-end _ _ _ _ (c .loop-test .left))

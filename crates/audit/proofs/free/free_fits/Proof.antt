@@ -19,10 +19,19 @@ side-of-requires : tie.Need-side-of-requires
 side-of-requires c κs = search needs
 
 returns-3 : tie.Need-returns-3
-returns-3 c = free-blank _ _ _ (c .before .before .before .before .if1 .left) (c .before .before .before .if2 .left) (c .before .before .position-of .ensures) (c .before .if3 .taken) _ (c .side-of .ensures)
+returns-3 c =
+    let at-if3 = c .before in
+    let at-position-of = at-if3 .before in
+    let at-if2 = at-position-of .before in
+    let at-if1 = at-if2 .before in
+    free-blank _ _ _ (at-if1 .if1 .left) (at-if2 .if2 .left) (at-position-of .position-of .ensures) (at-if3 .if3 .taken) _ (c .side-of .ensures)
 
 returns-4 : tie.Need-returns-4
-returns-4 c = sym (free-tests _ _ _ (c .before .before .before .if1 .left) (c .before .before .if2 .left) (c .before .position-of .ensures) (c .if3 .left))
+returns-4 c =
+    let at-position-of = c .before in
+    let at-if2 = at-position-of .before in
+    let at-if1 = at-if2 .before in
+    sym (free-tests _ _ _ (at-if1 .if1 .left) (at-if2 .if2 .left) (at-position-of .position-of .ensures) (c .if3 .left))
 
 pub free-fits-spec : {M : Type 1} → statement M
 free-fits-spec =

@@ -43,7 +43,14 @@ row-fits-requires : tie.Need-row-fits-requires Inv-loop μ-loop
 row-fits-requires c κs = search needs
 
 returns : tie.Need-returns Inv-loop μ-loop
-returns c = (sym (rows-fail _ _ _ (c .before .before .before .before .before .before .loop .inv .0) (c .before .before .before .before .signature-of .ensures) (c .before .before .before .next-of .ensures) (c .before .before .filed-of .ensures) _ (c .before .before .before .before .before .loop-test .taken) (sym (c .before .row-fits .ensures) ∙ not-true _ (c .if1 .taken))), λ e. no-bool e)
+returns c =
+    let at-row-fits = c .before in
+    let at-filed-of = at-row-fits .before in
+    let at-next-of = at-filed-of .before in
+    let at-signature-of = at-next-of .before in
+    let at-loop-test = at-signature-of .before in
+    let at-loop = at-loop-test .before in
+    (sym (rows-fail _ _ _ (at-loop .loop .inv .0) (at-signature-of .signature-of .ensures) (at-next-of .next-of .ensures) (at-filed-of .filed-of .ensures) _ (at-loop-test .loop-test .taken) (sym (at-row-fits .row-fits .ensures) ∙ not-true _ (c .if1 .taken))), λ e. no-bool e)
 
 add-count : tie.Need-add-count Inv-loop μ-loop
 add-count c = omega (arith, row-yes _ _ _ _ (sym (c .before .row-fits .ensures) ∙ not-false _ (c .if1 .left)))
@@ -52,10 +59,20 @@ loop-less : tie.Need-loop-less Inv-loop μ-loop
 loop-less c = search needs
 
 loop-again : tie.Need-loop-again Inv-loop μ-loop
-loop-again c = (rows-step _ _ _ (c .before .before .before .before .before .before .loop .inv .0) (c .before .before .before .before .signature-of .ensures) (c .before .before .before .next-of .ensures) (c .before .before .filed-of .ensures) _ (sym (c .before .row-fits .ensures) ∙ not-false _ (c .if1 .left)), omega (arith, filed-step (c .before .before .before .before .before .before .before .before .before .before .args .links .now) (c .before .before .before .before .before .before .loop .done), c .before .before .filed-of .ensures), omega (arith, row-yes _ _ _ _ (sym (c .before .row-fits .ensures) ∙ not-false _ (c .if1 .left))), search needs)
+loop-again c =
+    let at-row-fits = c .before in
+    let at-filed-of = at-row-fits .before in
+    let at-next-of = at-filed-of .before in
+    let at-signature-of = at-next-of .before in
+    let at-loop = at-signature-of .before .before in
+    let entry = at-loop .before .before .before .before in
+    (rows-step _ _ _ (at-loop .loop .inv .0) (at-signature-of .signature-of .ensures) (at-next-of .next-of .ensures) (at-filed-of .filed-of .ensures) _ (sym (at-row-fits .row-fits .ensures) ∙ not-false _ (c .if1 .left)), omega (arith, filed-step (entry .args .links .now) (at-loop .loop .done), at-filed-of .filed-of .ensures), omega (arith, row-yes _ _ _ _ (sym (at-row-fits .row-fits .ensures) ∙ not-false _ (c .if1 .left))), search needs)
 
 returns-2 : tie.Need-returns-2 Inv-loop μ-loop
-returns-2 c = let q : c .before .loop .done ≡ length (c .before .before .before .before .before .args .signatures .now) = omega (arith, c .before .loop .inv .3, c .loop-test .left) in (sym (ap (rowsOk _ _) (sym q) ∙ c .before .loop .inv .0), λ e. c .before .loop .inv .1 ∙ ap (filedUpTo _) q)
+returns-2 c =
+    let at-loop = c .before in
+    let entry = at-loop .before .before .before .before in
+    let q : at-loop .loop .done ≡ length (entry .args .signatures .now) = omega (arith, at-loop .loop .inv .3, c .loop-test .left) in (sym (ap (rowsOk _ _) (sym q) ∙ at-loop .loop .inv .0), λ e. at-loop .loop .inv .1 ∙ ap (filedUpTo _) q)
 
 pub check-rows-spec : {M : Type 1} → statement M
 check-rows-spec =

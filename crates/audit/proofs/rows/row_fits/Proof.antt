@@ -15,11 +15,19 @@ returns c = simp (sym (c .before .fits2 .ensures) ∙ not-true _ (c .if1 .taken)
 
 returns-2 : tie.Need-returns-2
 unfolding rowOk
-returns-2 c = simp (sym (c .before .before .before .fits2 .ensures) ∙ not-false _ (c .before .before .if1 .left), eq-eqb _ _ (c .before .if2 .taken), eq-eqb _ _ (c .if3 .taken))
+returns-2 c =
+    let at-if2 = c .before in
+    let at-if1 = at-if2 .before in
+    let at-fits2 = at-if1 .before in
+    simp (sym (at-fits2 .fits2 .ensures) ∙ not-false _ (at-if1 .if1 .left), eq-eqb _ _ (at-if2 .if2 .taken), eq-eqb _ _ (c .if3 .taken))
 
 returns-3 : tie.Need-returns-3
 unfolding rowOk
-returns-3 c = simp (sym (c .before .before .before .fits2 .ensures) ∙ not-false _ (c .before .before .if1 .left), eq-eqb _ _ (c .before .if2 .taken), ne-eqb _ _ (c .if3 .left))
+returns-3 c =
+    let at-if2 = c .before in
+    let at-if1 = at-if2 .before in
+    let at-fits2 = at-if1 .before in
+    simp (sym (at-fits2 .fits2 .ensures) ∙ not-false _ (at-if1 .if1 .left), eq-eqb _ _ (at-if2 .if2 .taken), ne-eqb _ _ (c .if3 .left))
 
 returns-4 : tie.Need-returns-4
 unfolding rowOk

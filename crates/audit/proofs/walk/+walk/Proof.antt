@@ -12,7 +12,7 @@ use Rattle.audit.proofs.walk.walk.Reads as walk
 use Rattle.audit.proofs.walk.walk.Kinds as walk-kinds
 use Rattle.audit.proofs.walk.+walk.Lts-walk as walk-lts
 use Rattle.audit.proofs.walk.leaf.Reads as leaf-reads
-use Rattle.audit.proofs.walk.look.Reads as look-reads
+use Rattle.audit.proofs.node.look.Reads as look-reads
 use Rattle.audit.proofs.walk.no_part.Reads as no-part-reads
 use Rattle.audit.proofs.walk.passed.Reads as passed-reads
 use Rattle.audit.proofs.walk.+walk.{statement}
@@ -51,7 +51,10 @@ no-part-requires-2 : At walk-lts.Need-no-part-requires-2
 no-part-requires-2 t c κs = search needs
 
 returns-3 : At walk-lts.Need-returns-3
-returns-3 t c = c .no-part2 .ensures ∙ sym (walk-done _ _ _ _ _ _ (c .before .before .before .before .if1 .left) (c .before .if3 .taken))
+returns-3 t c =
+    let at-if3 = c .before in
+    let at-if1 = at-if3 .before .before .before in
+    c .no-part2 .ensures ∙ sym (walk-done _ _ _ _ _ _ (at-if1 .if1 .left) (at-if3 .if3 .taken))
 
 sub-look : At walk-lts.Need-sub-look
 sub-look t c = search needs
@@ -63,34 +66,58 @@ no-part-requires-3 : At walk-lts.Need-no-part-requires-3
 no-part-requires-3 t c κs = search needs
 
 returns-4 : At walk-lts.Need-returns-4
-returns-4 t c = c .no-part3 .ensures ∙ sym (walk-bad _ _ _ _ _ _ (c .before .before .before .before .before .before .before .if1 .left) (c .before .before .before .before .before .before .if2 .left) (c .before .before .before .before .if3 .left) _ (c .before .before .before .look .ensures) (c .before .if4 .taken))
+returns-4 t c =
+    let at-if4 = c .before in
+    let at-look = at-if4 .before .before in
+    let at-if3 = at-look .before in
+    let at-if2 = at-if3 .before .before in
+    let at-if1 = at-if2 .before in
+    c .no-part3 .ensures ∙ sym (walk-bad _ _ _ _ _ _ (at-if1 .if1 .left) (at-if2 .if2 .left) (at-if3 .if3 .left) _ (at-look .look .ensures) (at-if4 .if4 .taken))
 
-sub-walk : At walk-lts.Need-sub-walk
-sub-walk t c = search needs
+sub-rest : At walk-lts.Need-sub-rest
+sub-rest t c = search needs
+
+sub-t17 : At walk-lts.Need-sub-t17
+sub-t17 t c = search needs
 
 passed-requires : At walk-lts.Need-passed-requires
 passed-requires t c κs = search needs
-
-sub-walk-2 : At walk-lts.Need-sub-walk-2
-sub-walk-2 t c = search needs
 
 walk-requires : At walk-lts.Need-walk-requires
 walk-requires t c κs = search needs
 
 returns-5 : At walk-lts.Need-returns-5
-returns-5 t c = walk-stop _ _ _ _ _ _ (c .before .before .before .before .before .before .before .before .before .before .before .if1 .left) (c .before .before .before .before .before .before .before .before .before .before .if2 .left) (c .before .before .before .before .before .before .before .before .if3 .left) _ (c .before .before .before .before .before .before .before .look .ensures) (c .before .before .before .before .before .if4 .left) _ (c .before .before .before .passed .ensures) _ (c .before .before .walk .ensures) (not-true _ (c .if5 .taken))
+returns-5 t c =
+    let at-walk = c .before .before in
+    let at-passed = at-walk .before in
+    let at-if4 = at-passed .before .before in
+    let at-look = at-if4 .before .before in
+    let at-if3 = at-look .before in
+    let at-if2 = at-if3 .before .before in
+    let at-if1 = at-if2 .before in
+    walk-stop _ _ _ _ _ _ (at-if1 .if1 .left) (at-if2 .if2 .left) (at-if3 .if3 .left) _ (at-look .look .ensures) (at-if4 .if4 .left) _ (at-passed .passed .ensures) _ (at-walk .walk .ensures) (not-true _ (c .if5 .taken))
 
 passed-requires-2 : At walk-lts.Need-passed-requires-2
 passed-requires-2 t c κs = search needs
 
-sub-walk-3 : At walk-lts.Need-sub-walk-3
-sub-walk-3 t c = search needs
-
 walk-requires-2 : At walk-lts.Need-walk-requires-2
-walk-requires-2 t c κs = (omega (arith, c .before .before .before .before .before .before .before .before .before .before .before .before .before .before .before .pre .0, c .before .before .before .before .before .before .before .before .before .before .before .if2 .left), c .before .before .before .before .before .before .before .before .before .before .before .before .before .before .before .pre .1)
+walk-requires-2 t c κs =
+    let at-if2 = c .before .before .before .before .before .before .before .before .before .before .before in
+    let entry = at-if2 .before .before .before .before in
+    (omega (arith, entry .pre .0, at-if2 .if2 .left), entry .pre .1)
 
 returns-6 : At walk-lts.Need-returns-6
-returns-6 t c = walk-both _ _ _ _ _ _ (c .before .before .before .before .before .before .before .before .before .before .before .before .before .if1 .left) (c .before .before .before .before .before .before .before .before .before .before .before .before .if2 .left) (c .before .before .before .before .before .before .before .before .before .before .if3 .left) _ (c .before .before .before .before .before .before .before .before .before .look .ensures) (c .before .before .before .before .before .before .before .if4 .left) _ (c .before .before .before .before .before .passed .ensures) _ (c .before .before .before .before .walk .ensures) _ (c .before .passed2 .ensures) _ (not-false _ (c .before .before .if5 .left)) (c .walk2 .ensures)
+returns-6 t c =
+    let at-passed2 = c .before in
+    let at-if5 = at-passed2 .before in
+    let at-walk = at-if5 .before .before in
+    let at-passed = at-walk .before in
+    let at-if4 = at-passed .before .before in
+    let at-look = at-if4 .before .before in
+    let at-if3 = at-look .before in
+    let at-if2 = at-if3 .before .before in
+    let at-if1 = at-if2 .before in
+    walk-both _ _ _ _ _ _ (at-if1 .if1 .left) (at-if2 .if2 .left) (at-if3 .if3 .left) _ (at-look .look .ensures) (at-if4 .if4 .left) _ (at-passed .passed .ensures) _ (at-walk .walk .ensures) _ (at-passed2 .passed2 .ensures) _ (not-false _ (at-if5 .if5 .left)) (c .walk2 .ensures)
 
 pub +walk-spec : {M : Type 1} → statement M
 +walk-spec = close μ-walk λ t. walk-lts.spec (calls t) (walk-at t) walk.Post
@@ -104,12 +131,11 @@ pub +walk-spec : {M : Type 1} → statement M
     (look-requires t)
     (no-part-requires-3 t)
     (returns-4 t)
-    (sub-walk t)
+    (sub-rest t)
+    (sub-t17 t)
     (passed-requires t)
-    (sub-walk-2 t)
     (walk-requires t)
     (returns-5 t)
     (passed-requires-2 t)
-    (sub-walk-3 t)
     (walk-requires-2 t)
     (returns-6 t)

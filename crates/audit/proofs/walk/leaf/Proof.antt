@@ -19,13 +19,22 @@ follow-requires : tie.Need-follow-requires
 follow-requires c κs = search needs
 
 returns-2 : tie.Need-returns-2
-returns-2 c = leaf-found _ _ _ _ (c .before .before .before .before .before .before .before .before .args .lent) (c .before .before .before .before .before .if1 .left) (c .before .before .before .before .signature-of .ensures) (c .before .if2 .taken) _ (c .follow .ensures)
+returns-2 c =
+    let at-if2 = c .before in
+    let at-signature-of = at-if2 .before .before .before in
+    let at-if1 = at-signature-of .before in
+    let entry = at-if1 .before .before .before in
+    leaf-found _ _ _ _ (entry .args .lent) (at-if1 .if1 .left) (at-signature-of .signature-of .ensures) (at-if2 .if2 .taken) _ (c .follow .ensures)
 
 no-part-requires-2 : tie.Need-no-part-requires-2
 no-part-requires-2 c κs = search needs
 
 returns-3 : tie.Need-returns-3
-returns-3 c = c .no-part2 .ensures ∙ sym (leaf-lost _ _ _ _ _ (c .before .before .before .before .before .if1 .left) (c .before .before .before .before .signature-of .ensures) (c .before .if2 .left))
+returns-3 c =
+    let at-if2 = c .before in
+    let at-signature-of = at-if2 .before .before .before in
+    let at-if1 = at-signature-of .before in
+    c .no-part2 .ensures ∙ sym (leaf-lost _ _ _ _ _ (at-if1 .if1 .left) (at-signature-of .signature-of .ensures) (at-if2 .if2 .left))
 
 pub leaf-spec : {M : Type 1} → statement M
 leaf-spec =
