@@ -49,3 +49,7 @@ first-le {r = r} {s = s} x y = le-of-suc-le-suc (lt-of-not-le (λ (g : suc s ≤
 
 pub first-unique : {F a b r s : ℕ} → IsFirst F a b r → IsFirst F a b s → r ≡ s
 first-unique x y = le-antisymm (first-le x y) (first-le y x)
+
+-- it is the same from either side
+pub first-swap : {F a b r : ℕ} → IsFirst F a b r → IsFirst F b a r
+first-swap x = record { low = x .low; high = x .high; differs = λ e. x .differs (sym e); before = λ i p h. sym (x .before i p h) }

@@ -32,7 +32,8 @@ unfolding keep
 keep-in t [] x m = absurd (List·Memᴰ·not-nil m)
 keep-in t (y ∷ l) x m = go (t y) refl (keep-in t l x)
   where
-    late : t y ≡ true → (List·Memᴰ x (keep t l) → List·Memᴰ x l × (t x ≡ true)) → (x ≡ y) ⊎ List·Memᴰ x (keep t l) → List·Memᴰ x (y ∷ l) × (t x ≡ true)
+    late : t y ≡ true → (List·Memᴰ x (keep t l) → List·Memᴰ x l × (t x ≡ true)) → (x ≡ y) ⊎ List·Memᴰ x (keep t l) → List·Memᴰ x (y ∷ l)
+        × (t x ≡ true)
     late e ih (inl h) = (List·Memᴰ·head h, ap t h ∙ e)
     late e ih (inr n) = let r = ih n in (List·Memᴰ·tail (r .0), r .1)
 

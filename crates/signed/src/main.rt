@@ -1,4 +1,4 @@
-// Signs worked examples and splits two texts, each result one line of text. tests/words/expected.py says what must come out.
+// Signs the worked examples and splits two texts, each result one line of text. tests/words/expected.py says what must come out.
 use libc::STDOUT_FILENO;
 
 // A word, then a number.

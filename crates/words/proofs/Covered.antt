@@ -25,9 +25,14 @@ unfolding orOver
 word-covered F K w [] m = absurd (List·Memᴰ·not-nil m)
 word-covered F K w (v ∷ ws) m = go (List·Memᴰ·cases-cons m) (word-covered F K w ws)
   where
-    go : (w ≡ v) ⊎ List·Memᴰ w ws → (List·Memᴰ w ws → Covers F (orOver F K ws) (wordSignature F K w)) → Covers F (bitOr (wordSignature F K v) (orOver F K ws)) (wordSignature F K w)
-    go (inl e) ih = subst (λ (u : List ℕ). Covers F (bitOr (wordSignature F K v) (orOver F K ws)) (wordSignature F K u)) (sym e) (covers-left F (wordSignature F K v) (orOver F K ws))
-    go (inr h) ih = covers-trans F (bitOr (wordSignature F K v) (orOver F K ws)) (orOver F K ws) (wordSignature F K w) (covers-right F (wordSignature F K v) (orOver F K ws)) (ih h)
+    go : (w ≡ v) ⊎ List·Memᴰ w ws → (List·Memᴰ w ws → Covers F (orOver F K ws) (wordSignature F K w))
+        → Covers F (bitOr (wordSignature F K v) (orOver F K ws)) (wordSignature F K w)
+    go (inl e) ih =
+        subst (λ (u : List ℕ). Covers F (bitOr (wordSignature F K v) (orOver F K ws)) (wordSignature F K u)) (sym e)
+        (covers-left F (wordSignature F K v) (orOver F K ws))
+    go (inr h) ih =
+        covers-trans F (bitOr (wordSignature F K v) (orOver F K ws)) (orOver F K ws) (wordSignature F K w)
+        (covers-right F (wordSignature F K v) (orOver F K ws)) (ih h)
 
 words-covered : (F K : ℕ) (qs bs : List (List ℕ)) → ((w : List ℕ) → List·Memᴰ w qs → List·Memᴰ w bs) → Covers F (orOver F K bs) (orOver F K qs)
 unfolding orOver
@@ -37,7 +42,8 @@ words-covered F K (q ∷ qs) bs h =
     (words-covered F K qs bs (λ w m. h w (List·Memᴰ·tail m)))
 
 -- if all words of a query text are words of a block text, signed with the same F and K, the block's signature covers the query's
-pub cover : (F K : ℕ) (query block : List ℕ) → ((w : List ℕ) → List·Memᴰ w (wordsOf query) → List·Memᴰ w (wordsOf block)) → Covers F (textSignature F K block) (textSignature F K query)
+pub cover : (F K : ℕ) (query block : List ℕ) → ((w : List ℕ) → List·Memᴰ w (wordsOf query) → List·Memᴰ w (wordsOf block))
+    → Covers F (textSignature F K block) (textSignature F K query)
 unfolding textSignature
 cover F K query block h = words-covered F K (wordsOf query) (wordsOf block) h
 

@@ -88,7 +88,8 @@ unfolding different keep
 different-new j [] h = refl
 different-new j (i ∷ l) h = go (different-new j l) (ℕ-discrete j i)
   where
-    go : (times j l ≡ 0 → different (l ++ (j ∷ [])) ≡ different l ++ (j ∷ [])) → Dec (j ≡ i) → i ∷ others i (different (l ++ (j ∷ []))) ≡ i ∷ (others i (different l) ++ (j ∷ []))
+    go : (times j l ≡ 0 → different (l ++ (j ∷ [])) ≡ different l ++ (j ∷ [])) → Dec (j ≡ i)
+        → i ∷ others i (different (l ++ (j ∷ []))) ≡ i ∷ (others i (different l) ++ (j ∷ []))
     go ih (yes e) = no-list j l (ap (λ (k : ℕ). times j (k ∷ l)) e ∙ h)
     go ih (no n) =
         let n′ : i ≢ j = λ f. n (sym f) in
@@ -101,7 +102,8 @@ unfolding different times
 different-old j [] h = absurd (omega arith)
 different-old j (i ∷ l) h = go (different-old j l) (ℕ-discrete i j) (ℕ-discrete (times j l) 0)
   where
-    go : (0 < times j l → different (l ++ (j ∷ [])) ≡ different l) → Dec (i ≡ j) → Dec (times j l ≡ 0) → i ∷ others i (different (l ++ (j ∷ []))) ≡ i ∷ others i (different l)
+    go : (0 < times j l → different (l ++ (j ∷ [])) ≡ different l) → Dec (i ≡ j) → Dec (times j l ≡ 0)
+        → i ∷ others i (different (l ++ (j ∷ []))) ≡ i ∷ others i (different l)
     go ih d (no n) =
         let p : 0 < times j l = omega arith in
         ap (λ (r : List ℕ). i ∷ others i r) (ih p)

@@ -82,7 +82,8 @@ module _ (F K : ℕ) (text : List ℕ) (s i : ℕ) (here : s ≤ i) (below : i <
   run-at n h = getD-take (i - s) (drop s text) n 0 h ∙ getD-drop s text n 0
 
   -- the third byte of a run and each later one end a triplet
-  pub run-triplet : s + 2 ≤ i → triplets F (run text s (i + 1)) ≡ triplets F (run text s i) ++ (tripletPosition F (getD text (i - 2) 0) (getD text (i - 1) 0) (getD text i 0) ∷ [])
+  pub run-triplet : s + 2 ≤ i
+      → triplets F (run text s (i + 1)) ≡ triplets F (run text s i) ++ (tripletPosition F (getD text (i - 2) 0) (getD text (i - 1) 0) (getD text i 0) ∷ [])
   run-triplet h =
       let n : ℕ = i - s - 2 in
       let len : length (run text s i) ≡ n + 2 = omega (arith, run-length) in
@@ -161,7 +162,8 @@ module _ (F K : ℕ) (text : List ℕ) (signed bits count s i : ℕ) (k : Kept F
       let all : i ≡ length text = omega (arith, k .high) in
       ap (bitOr signed) (sets-word F K (run text s i) bits count (k .sets) ∙ sym (due-last F K text s i all)) ∙ k .whole
 
-pub kept-by : (F K : ℕ) (text : List ℕ) (x x′ b b′ c c′ s s′ i : ℕ) → x′ ≡ x → b′ ≡ b → c′ ≡ c → s′ ≡ s → Kept F K text x b c s i → Kept F K text x′ b′ c′ s′ i
+pub kept-by : (F K : ℕ) (text : List ℕ) (x x′ b b′ c c′ s s′ i : ℕ) → x′ ≡ x → b′ ≡ b → c′ ≡ c → s′ ≡ s → Kept F K text x b c s i
+    → Kept F K text x′ b′ c′ s′ i
 kept-by F K text x x′ b b′ c c′ s s′ i ex eb ec es k =
     subst (λ (y : ℕ). Kept F K text y b′ c′ s′ i) (sym ex)
     (subst (λ (y : ℕ). Kept F K text x y c′ s′ i) (sym eb)

@@ -145,7 +145,8 @@ run-unique text i p q x y hp hq =
     ap₂ partAt e g
 
 -- each longest run is among parts that are longest runs and hold its first byte
-run-among : (text : List ℕ) (p : Part) → LongestRun text p → (ps : List Part) → ((q : Part) → List·Memᴰ q ps → LongestRun text q) → Held (p .start) ps → List·Memᴰ p ps
+run-among : (text : List ℕ) (p : Part) → LongestRun text p → (ps : List Part) → ((q : Part) → List·Memᴰ q ps → LongestRun text q)
+    → Held (p .start) ps → List·Memᴰ p ps
 run-among text p x [] r h = absurd h
 run-among text p x (q ∷ qs) r (inl h) =
     List·Memᴰ·head (run-unique text (p .start) p q x (r q (List·Memᴰ·head refl)) (omega arith, omega (arith, x .some)) h)
