@@ -12,22 +12,8 @@ use lib.ListN.{length, getD, set, length-set}
 use lib.Seq.{ext-getD, getD-set-same, getD-set-other}
 use borrow.Author.Tests.{eq-eqb, ne-eqb}
 use Rattle.model.specs.Tables.{widthOf, filedOf, signatureOf}
+use Rattle.model.proofs.Matching.{pair-not, pair-one}
 use Rattle.model.specs.Ledger.{Entry, unfiled, pair, Ledger, entryOf, hasPair, pairSignatures, entryIn, entriesFrom, ledgerOf}
-
--- a pair is not unfiled, and has one signature
-abbrev isPair : Entry → ℕ
-isPair unfiled = 0
-isPair (pair s) = 1
-
-pub pair-not : (s : ℕ) → unfiled ≡ pair s → ⊥
-pair-not s e = omega (arith, ap isPair e)
-
-abbrev signatureIn : Entry → ℕ
-signatureIn unfiled = 0
-signatureIn (pair s) = s
-
-pub pair-one : (s u : ℕ) → pair s ≡ pair u → s ≡ u
-pair-one s u e = ap signatureIn e
 
 -- a signature of the pairs is some entry's, and the other way
 pub pair-at : (s : ℕ) (es : List Entry) → List·Memᴰ s (pairSignatures es) → (i : ℕ) × (i < length es) × (getD es i unfiled ≡ pair s)

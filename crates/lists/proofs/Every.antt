@@ -12,7 +12,7 @@ use Rattle.model.specs.Questions.{Work, Reading, refused, carries}
 use Rattle.model.specs.Ledger.{Ledger, emptyLedger, Report}
 use Rattle.model.specs.Lists.{Memory, Gives, GivesReading, reading, Step, Run}
 use Rattle.model.specs.Claim.{Claim, Begins, sound, zeros}
-use Rattle.lists.proofs.Carried.{Carried}
+use Rattle.lists.specs.Carried.{Carried}
 use Rattle.lists.proofs.Steps.{Stepped, carried, stays}
 use Rattle.lists.proofs.OnSound.{sound-step}
 use Rattle.lists.proofs.OnZeros.{zero-step}

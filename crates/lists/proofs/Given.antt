@@ -13,7 +13,7 @@ use Rattle.model.specs.Ledger.{ledgerOf, Report, bare, doneBy}
 use Rattle.model.specs.Lists.{Memory, TablesOnly, Gives}
 use Rattle.model.specs.Claim.{Searched}
 use Rattle.lists.proofs.Searching.{search-report, search-bounds}
-use Rattle.lists.proofs.Carried.{Carried}
+use Rattle.lists.specs.Carried.{Carried}
 use Rattle.lists.proofs.Moves.{Moves, clear-moves, file-moves, withdraw-moves, rebuild-moves}
 
 work-same : (W W′ : Work) → W′ .scratch ≡ W .scratch → W′ .marks ≡ W .marks → W′ .output ≡ W .output → W′ ≡ W

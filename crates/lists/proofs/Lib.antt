@@ -2,7 +2,6 @@ pub mod Entries
 pub mod Asking
 pub mod Leaves
 pub mod Searching
-pub mod Carried
 pub mod Moves
 pub mod Given
 pub mod Zeros
@@ -10,3 +9,5 @@ pub mod Steps
 pub mod OnSound
 pub mod OnZeros
 pub mod Every
+pub mod Starts
+pub mod Alike

@@ -23,7 +23,7 @@ use Rattle.model.proofs.Build.{build-same}
 use Rattle.lists.proofs.Entries.{entry-unfiled, entry-pair, entries-length, entries-of, ledger-stays, ledger-changes}
 use Rattle.lists.proofs.Leaves.{tree-proper, pair-leaf, pair-holder, filed-pair, stored-leaves}
 use Rattle.lists.proofs.Asking.{clear-fits, file-fits, withdraw-fits}
-use Rattle.lists.proofs.Carried.{Another, Withdrawn, Carried}
+use Rattle.lists.specs.Carried.{Another, Withdrawn, Carried}
 
 -- the tables sigs′ and links′ after the call c on the tables sigs and links
 pub record Moves (sigs links : List ℕ) (c : Call) (sigs′ links′ : List ℕ) : Type 0 where

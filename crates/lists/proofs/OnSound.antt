@@ -11,7 +11,7 @@ use Rattle.model.specs.Ledger.{Ledger, ledgerOf, asksLedger, Report, doneBy}
 use Rattle.model.specs.Lists.{Memory, Gives}
 use Rattle.model.specs.Claim.{sound}
 use Rattle.lists.proofs.Asking.{ledger-refusal}
-use Rattle.lists.proofs.Carried.{Carried}
+use Rattle.lists.specs.Carried.{Carried}
 use Rattle.lists.proofs.Given.{Refused, refused-gives, done-gives}
 use Rattle.lists.proofs.Steps.{begins-sound, Stepped, halts, works}
 

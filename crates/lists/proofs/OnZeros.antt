@@ -13,7 +13,7 @@ use Rattle.model.specs.Ledger.{Entry, unfiled, emptyLedger, asksLedger, Report,
 use Rattle.model.specs.Lists.{Memory, Gives}
 use Rattle.model.specs.Claim.{sound, zeros}
 use Rattle.lists.proofs.Asking.{clear-fits}
-use Rattle.lists.proofs.Carried.{Carried}
+use Rattle.lists.specs.Carried.{Carried}
 use Rattle.lists.proofs.Given.{Refused, refused-gives, isSearch}
 use Rattle.lists.proofs.Zeros.{zero-refusal, zero-clears}
 use Rattle.lists.proofs.Steps.{begins-sound, Stepped, halts, works}

@@ -10,4 +10,8 @@ pub mod Reached
 pub mod Powers
 pub mod Build
 pub mod Best
+pub mod Differ
+pub mod Built
+pub mod Matching
+pub mod Eleven
 pub mod Marked
