@@ -6,30 +6,12 @@ use mathlib.Core.Path.{_≡_, refl, sym, _∙_, ap, ap₂, subst}
 use mathlib.Core.Bool.{true, false}
 use mathlib.Core.List.{List, [], _∷_}
 use lib.Dec.{eqb}
-use lib.ListN.{length}
 use Rattle.model.specs.Tree.{Tree}
 use Rattle.model.specs.Questions.{Asked, Work, Call, clear, file, withdraw, rebuild, search, audit, refusal, Reading, refused, carries}
 use Rattle.model.specs.Ledger.{Ledger, asksLedger, ledgerAfter, treeAfter, Report, bare, doneBy, reportBy}
 use Rattle.model.specs.Lists.{reading, Step}
 use Rattle.model.specs.Claim.{Claim}
-
--- slices as long as the others
-pub record SameLengths (W W′ : Work) : Type 0 where
-  pub scratch : length (W .scratch) ≡ length (W′ .scratch)
-  pub marks : length (W .marks) ≡ length (W′ .marks)
-  pub output : length (W .output) ≡ length (W′ .output)
-
--- the same requests, with slices as long
-abbrev pub Alike : List Step → List Step → Type 0
-Alike [] [] = Unit {0}
-Alike [] (u ∷ us) = ⊥
-Alike (s ∷ ss) [] = ⊥
-Alike (s ∷ ss) (u ∷ us) = (s .request ≡ u .request) × SameLengths (s .lent) (u .lent) × Alike ss us
-
--- what the steps reported
-abbrev pub reports : List Step → List Report
-reports [] = []
-reports (s ∷ ss) = s .report ∷ reports ss
+use Rattle.lists.specs.Alike.{SameLengths, Alike, reports}
 
 refusal-alike : (A : Asked) (W W′ : Work) → SameLengths W W′ → (c : Call) → refusal A W c ≡ refusal A W′ c
 refusal-alike A W W′ l (clear F) = refl

@@ -15,7 +15,7 @@ use Rattle.model.specs.Tables.{linksOf, widthOf, toldBlocks, filedOf}
 use Rattle.model.specs.Sound.{Sound}
 use Rattle.model.specs.Questions.{Asked, widthFits, asksTables, ask, isBlock, clearRefusal, fileRefusal, withdrawRefusal, rebuildRefusal, searchRefusal, auditRefusal, Call, clear, file, withdraw, rebuild, search, audit, Work, refusal}
 use Rattle.model.specs.Ledger.{hasPair, ledgerOf, asksLedger}
-use Rattle.lists.proofs.Entries.{entries-length, entries-of, entry-filed}
+use Rattle.tables.proofs.Entries.{entries-length, entries-of, entry-filed}
 
 pub ask-zero : (n : ℕ) (t : Bool) (k : ℕ) → n ≢ 0 → ask n t k ≡ 0 → (t ≡ true) × (k ≡ 0)
 unfolding ask

@@ -11,22 +11,23 @@ use Rattle.model.specs.Tables.{linksOf}
 use Rattle.model.specs.Questions.{Work, Reading, refused, carries}
 use Rattle.model.specs.Ledger.{Ledger, emptyLedger, Report}
 use Rattle.model.specs.Lists.{Memory, Gives, GivesReading, reading, Step, Run}
+use Rattle.lists.specs.Stepped.{Stepped}
 use Rattle.model.specs.Claim.{Claim, Begins, sound, zeros}
-use Rattle.lists.specs.Carried.{Carried}
-use Rattle.lists.proofs.Steps.{Stepped, carried, stays}
+use Rattle.lists.proofs.Moves.{Rebuilds}
+use Rattle.lists.proofs.Steps.{carried, stays}
 use Rattle.lists.proofs.OnSound.{sound-step}
 use Rattle.lists.proofs.OnZeros.{zero-step}
 
-module _ (C : Carried) where
+module _ (R : Rebuilds) where
   -- any request, from any beginning
   pub step : (sigs links : List ℕ) (L : Ledger) (t : Tree) → Begins sigs links L t → (r : Reading) (W : Work) (o : Report) (M′ : Memory)
       → GivesReading r (record { signatures = sigs; links = links; work = W }) o M′ → Stepped L t r (record { signatures = sigs; links = links; work = W }) o M′
   step sigs links L t b (refused n) W o M′ g = stays L t (record { signatures = sigs; links = links; work = W }) o M′ (refused n) b (g .0) (g .1) (λ q i z. omega (arith, ap carried i)) refl refl
-  step sigs links L t (sound S) (carries c) W o M′ g = sound-step C c (record { signatures = sigs; links = links; work = W }) o M′ g S
+  step sigs links L t (sound S) (carries c) W o M′ g = sound-step R c (record { signatures = sigs; links = links; work = W }) o M′ g S
   step sigs links L t (zeros B h k e f) (carries c) W o M′ g =
       subst (λ (x : List ℕ). Stepped (emptyLedger B 0) nothing (carries c) (record { signatures = sigs; links = x; work = W }) o M′) (sym f)
       (subst (λ (x : List ℕ). Stepped (emptyLedger B 0) nothing (carries c) (record { signatures = x; links = replicate (linksOf B) 0; work = W }) o M′) (sym e)
-      (zero-step C B h k c W o M′ (subst (λ (x : List ℕ). Gives c (record { signatures = replicate B 0; links = x; work = W }) o M′) f (subst (λ (x : List ℕ). Gives c (record { signatures = x; links = links; work = W }) o M′) e g))))
+      (zero-step B h k c W o M′ (subst (λ (x : List ℕ). Gives c (record { signatures = replicate B 0; links = x; work = W }) o M′) f (subst (λ (x : List ℕ). Gives c (record { signatures = x; links = links; work = W }) o M′) e g))))
 
   -- every list
   pub every-list : (sigs links : List ℕ) (L : Ledger) (t : Tree) → Begins sigs links L t → (steps : List Step) → Run sigs links steps → Claim L t sigs links steps

@@ -13,18 +13,15 @@ use Rattle.model.specs.Ledger.{ledgerOf, Report, bare, doneBy}
 use Rattle.model.specs.Lists.{Memory, TablesOnly, Gives}
 use Rattle.model.specs.Claim.{Searched}
 use Rattle.lists.proofs.Searching.{search-report, search-bounds}
-use Rattle.lists.specs.Carried.{Carried}
-use Rattle.lists.proofs.Moves.{Moves, clear-moves, file-moves, withdraw-moves, rebuild-moves}
+use Rattle.lists.specs.Moves.{Moves, Done}
+use Rattle.lists.specs.Stepped.{Refused}
+use Rattle.lists.proofs.Moves.{Rebuilds, clear-moves, file-moves, withdraw-moves}
 
 work-same : (W W′ : Work) → W′ .scratch ≡ W .scratch → W′ .marks ≡ W .marks → W′ .output ≡ W .output → W′ ≡ W
 work-same W W′ a b c = λ i. record { scratch = a i; marks = b i; output = c i }
 
 memory-same : (M M′ : Memory) → M′ .signatures ≡ M .signatures → M′ .links ≡ M .links → M′ .work ≡ M .work → M′ ≡ M
 memory-same M M′ a b c = λ i. record { signatures = a i; links = b i; work = c i }
-
--- a refusal with number n
-abbrev pub Refused : ℕ → Memory → Report → Memory → Type 0
-Refused n M o M′ = (o ≡ bare n) × (M′ ≡ M)
 
 tables-refused : (n : ℕ) (M M′ : Memory) (o : Report) → (o .answer ≡ n) × (M′ .signatures ≡ M .signatures) × (M′ .links ≡ M .links) → TablesOnly M o M′ → Refused n M o M′
 tables-refused n M M′ o x y = (y .counts ∙ ap bare (x .0), memory-same M M′ (x .1) (x .2) (y .work))
@@ -42,13 +39,7 @@ refused-gives (search q) M o M′ g n =
     (x .0, memory-same M M′ (g .1 .signatures) (g .1 .links) (work-same (M .work) (M′ .work) (g .1 .scratch) (x .1) (x .2)))
 refused-gives audit M o M′ g n = (g .1 ∙ ap bare (g .0 .refused n), g .2)
 
--- a call that is carried out on sound tables
-pub record Done (c : Call) (M : Memory) (o : Report) (M′ : Memory) : Type 0 where
-  pub report : o ≡ doneBy (ledgerOf (M .signatures) (M .links)) (treeOf (M .signatures) (M .links)) c
-  pub moves : Moves (M .signatures) (M .links) c (M′ .signatures) (M′ .links)
-  pub searched : (q : ℕ) → c ≡ search q → Searched (ledgerOf (M .signatures) (M .links)) (treeOf (M .signatures) (M .links)) q (M .work) o (M′ .work)
-
--- one for a call, none for a search
+-- one for a search, none for another call
 abbrev pub isSearch : Call → ℕ
 isSearch (clear F) = 0
 isSearch (file b s) = 0
@@ -75,19 +66,19 @@ query rebuild = 0
 query (search q) = q
 query audit = 0
 
-module _ (C : Carried) where
+module _ (R : Rebuilds) where
   pub done-gives : (c : Call) (M : Memory) (o : Report) (M′ : Memory) → Gives c M o M′ → refusal (asksTables (M .signatures) (M .links)) (M .work) c ≡ 0 → Sound (M .signatures) (M .links) → Done c M o M′
   done-gives (clear F) M o M′ g e S =
       let x = g .0 .done e in
-      plainly (clear F) M o M′ refl refl (g .1 .counts) (x .0) _ _ (x .1) (x .2) (clear-moves C (M .signatures) (M .links) S F e)
+      plainly (clear F) M o M′ refl refl (g .1 .counts) (x .0) _ _ (x .1) (x .2) (clear-moves (M .signatures) (M .links) S F e)
   done-gives (file b s) M o M′ g e S =
       let x = g .0 .done e S in
-      plainly (file b s) M o M′ refl refl (g .1 .counts) (x .0) _ _ (x .1) (x .2) (file-moves C (M .signatures) (M .links) S b s e)
+      plainly (file b s) M o M′ refl refl (g .1 .counts) (x .0) _ _ (x .1) (x .2) (file-moves (M .signatures) (M .links) S b s e)
   done-gives (withdraw b) M o M′ g e S =
       let x = g .0 .done e S in
-      plainly (withdraw b) M o M′ refl refl (g .1 .counts) (x .0) _ _ (x .1) (x .2) (withdraw-moves C (M .signatures) (M .links) S b e)
+      plainly (withdraw b) M o M′ refl refl (g .1 .counts) (x .0) _ _ (x .1) (x .2) (withdraw-moves (M .signatures) (M .links) S b e)
   done-gives rebuild M o M′ g e S =
-      ⊎-elim (λ x. plainly rebuild M o M′ refl refl (g .1 .counts) (x .zero) _ _ (g .1 .signatures) (x .words) (rebuild-moves C (M .signatures) (M .links) S))
+      ⊎-elim (λ x. plainly rebuild M o M′ refl refl (g .1 .counts) (x .zero) _ _ (g .1 .signatures) (x .words) (R (M .signatures) (M .links) S))
       (λ x. absurd (x .0 S)) (g .0 .asked e)
   done-gives (search q) M o M′ g e S =
       let x = g .0 .done e S in

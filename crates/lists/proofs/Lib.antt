@@ -1,6 +1,4 @@
-pub mod Entries
 pub mod Asking
-pub mod Leaves
 pub mod Searching
 pub mod Moves
 pub mod Given

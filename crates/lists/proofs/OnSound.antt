@@ -9,16 +9,17 @@ use Rattle.model.specs.Sound.{Sound}
 use Rattle.model.specs.Questions.{asksTables, Call, clear, file, withdraw, rebuild, search, audit, refusal, carries}
 use Rattle.model.specs.Ledger.{Ledger, ledgerOf, asksLedger, Report, doneBy}
 use Rattle.model.specs.Lists.{Memory, Gives}
+use Rattle.lists.specs.Stepped.{Stepped, Refused}
 use Rattle.model.specs.Claim.{sound}
 use Rattle.lists.proofs.Asking.{ledger-refusal}
-use Rattle.lists.specs.Carried.{Carried}
-use Rattle.lists.proofs.Given.{Refused, refused-gives, done-gives}
-use Rattle.lists.proofs.Steps.{begins-sound, Stepped, halts, works}
+use Rattle.lists.proofs.Moves.{Rebuilds}
+use Rattle.lists.proofs.Given.{refused-gives, done-gives}
+use Rattle.lists.proofs.Steps.{begins-sound, halts, works}
 
 done-zero : (L : Ledger) (t : Tree) (c : Call) → doneBy L t c .answer ≡ 0
 done-zero L t c = elim c [ clear F ↦ refl | file b s ↦ refl | withdraw b ↦ refl | rebuild ↦ refl | search q ↦ refl | audit ↦ refl ]
 
-module _ (C : Carried) where
+module _ (R : Rebuilds) where
   -- a call on sound tables
   pub sound-step : (c : Call) (M : Memory) (o : Report) (M′ : Memory) → Gives c M o M′ → Sound (M .signatures) (M .links)
       → Stepped (ledgerOf (M .signatures) (M .links)) (treeOf (M .signatures) (M .links)) (carries c) M o M′
@@ -32,7 +33,7 @@ module _ (C : Carried) where
           halts (ledgerOf (M .signatures) (M .links)) (treeOf (M .signatures) (M .links)) M o M′ c (sound S) (λ e. n (sym same ∙ e))
           (subst (λ (k : ℕ). Refused k M o M′) (sym same) (refused-gives c M o M′ g n))
       go (yes e) =
-          let d = done-gives C c M o M′ g e S in
+          let d = done-gives R c M o M′ g e S in
           works (ledgerOf (M .signatures) (M .links)) (treeOf (M .signatures) (M .links)) M o M′ c (same ∙ e) (d .report)
           (ap (λ (y : Report). y .answer) (d .report) ∙ done-zero (ledgerOf (M .signatures) (M .links)) (treeOf (M .signatures) (M .links)) c) (d .searched)
           (begins-sound (M′ .signatures) (M′ .links) _ _ (d .moves .sound) (d .moves .ledger) (d .moves .tree))

@@ -15,14 +15,14 @@ use Rattle.model.specs.Claim.{Searched}
 use Rattle.model.proofs.Members.{same-length}
 use Rattle.model.proofs.Compared.{compared-reached, reached-same, reached-few, nodes-few, nodes-compares}
 use Rattle.model.proofs.Powers.{compared-powers}
-use Rattle.lists.proofs.Entries.{entries-length}
-use Rattle.lists.proofs.Leaves.{tree-proper, stored-leaves}
+use Rattle.tables.proofs.Entries.{entries-length}
+use Rattle.tables.proofs.Stored.{sound-proper, stored-leaves}
 
 module _ (sigs links : List ℕ) (S : Sound sigs links) (q : ℕ) where
   -- the leaves compared are as many as the stored signatures whose path has no 0 edge where the query has a 1
   compares : length (compared (widthOf links) q (treeOf sigs links)) ≡ length (reached (widthOf links) q (treeOf sigs links) (stored (ledgerOf sigs links)))
   compares =
-      ap length (compared-reached (widthOf links) q (treeOf sigs links) (tree-proper sigs links S))
+      ap length (compared-reached (widthOf links) q (treeOf sigs links) (sound-proper sigs links S))
       ∙ sym (reached-same (widthOf links) q (treeOf sigs links) (stored (ledgerOf sigs links)) (signatures (treeOf sigs links)) (stored-leaves sigs links S))
 
   pub search-report : searchReport sigs links q ≡ doneBy (ledgerOf sigs links) (treeOf sigs links) (search q)
@@ -37,8 +37,8 @@ module _ (sigs links : List ℕ) (S : Sound sigs links) (q : ℕ) where
         listed = w;
         marked = m ∙ ap (λ (n : ℕ). marksAfter n (matching q (ledgerOf sigs links)) (W .marks)) (sym (entries-length sigs links (length sigs) 1));
         compares-stored = subst (λ (n : ℕ). n ≤ length (stored (ledgerOf sigs links))) (sym compares) (reached-few (widthOf links) q (treeOf sigs links) (stored (ledgerOf sigs links)));
-        compares-zeros = compared-powers (widthOf links) q (treeOf sigs links) (tree-proper sigs links S);
+        compares-zeros = compared-powers (widthOf links) q (treeOf sigs links) (sound-proper sigs links S);
         bits-stored = subst (λ (n : ℕ). nodesRead (widthOf links) q (treeOf sigs links) ≤ n - 1)
-            (sym (same-length (stored (ledgerOf sigs links)) (signatures (treeOf sigs links)) (stored-leaves sigs links S))) (nodes-few (widthOf links) q (treeOf sigs links) (tree-proper sigs links S));
-        bits-compares = nodes-compares (widthOf links) q (treeOf sigs links) (tree-proper sigs links S);
+            (sym (same-length (stored (ledgerOf sigs links)) (signatures (treeOf sigs links)) (stored-leaves sigs links S))) (nodes-few (widthOf links) q (treeOf sigs links) (sound-proper sigs links S));
+        bits-compares = nodes-compares (widthOf links) q (treeOf sigs links) (sound-proper sigs links S);
       })

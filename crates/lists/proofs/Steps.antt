@@ -13,9 +13,9 @@ use Rattle.model.specs.Sound.{Sound}
 use Rattle.model.specs.Questions.{Call, clear, search, refusal, Reading, refused, carries}
 use Rattle.model.specs.Ledger.{Ledger, emptyLedger, ledgerOf, asksLedger, entered, grown, ledgerAfter, treeAfter, Report, doneBy, reportBy}
 use Rattle.model.specs.Lists.{Memory}
-use Rattle.model.specs.Claim.{Kept, Searched, Right, Begins, sound, zeros}
-use Rattle.lists.proofs.Leaves.{leads-of, paths-of}
-use Rattle.lists.proofs.Given.{Refused}
+use Rattle.lists.specs.Stepped.{Stepped, Refused}
+use Rattle.model.specs.Claim.{Kept, Searched, Begins, sound, zeros}
+use Rattle.tables.proofs.Stored.{leads-of, paths-of}
 use Rattle.lists.proofs.Zeros.{zero-kept}
 
 -- sound tables with their ledger and their tree, by equal ones
@@ -26,10 +26,6 @@ begins-sound sigs links L t S e f = subst (λ (x : Ledger). Begins sigs links x 
 pub kept-of : (sigs links : List ℕ) (L : Ledger) (t : Tree) → Begins sigs links L t → Kept L t sigs links
 kept-of sigs links L t (sound S) = record { sound = λ _. S; ledger = refl; tree = refl; leads = leads-of sigs links S; paths = paths-of sigs links S }
 kept-of sigs links L t (zeros B h k e f) = subst (Kept (emptyLedger B 0) nothing sigs) (sym f) (subst (λ (x : List ℕ). Kept (emptyLedger B 0) nothing x (replicate (linksOf B) 0)) (sym e) (zero-kept B h k))
-
--- a step is right, and what it leaves goes together
-abbrev pub Stepped : Ledger → Tree → Reading → Memory → Report → Memory → Type 0
-Stepped L t r M o M′ = Right L t r M o M′ × Begins (M′ .signatures) (M′ .links) (ledgerAfter L (M .work) r) (treeAfter L t (M .work) r)
 
 -- is it a call, and which
 abbrev pub callOf : Reading → Call

@@ -15,7 +15,7 @@ use Rattle.model.specs.Questions.{Asked, asksTables, ask, clearRefusal, fileRef
 use Rattle.model.specs.Ledger.{Entry, unfiled, pairSignatures, isStored, emptyLedger, ledgerOf, asksLedger}
 use Rattle.model.specs.Claim.{Paths, Kept}
 use Rattle.tables.proofs.Trees.{treeFrom-none}
-use Rattle.lists.proofs.Entries.{entry-unfiled, entries-ext, ledger-same}
+use Rattle.tables.proofs.Entries.{entry-unfiled, entries-ext}
 
 -- no pair, no path
 no-pairs : (n : ℕ) → pairSignatures (replicate n unfiled) ≡ []
@@ -72,9 +72,9 @@ module _ (B : ℕ) (b1 : 1 ≤ B) (b2 : B ≤ mostBlocks) where
 
   zero-ledger : ledgerOf sigs links ≡ emptyLedger B 0
   zero-ledger =
-      ledger-same (ledgerOf sigs links) (emptyLedger B 0) (zero-word 0 (omega arith))
-      (rw (length-replicate {A = ℕ} B 0) (entries-ext sigs links (replicate B unfiled) B (length-replicate B unfiled)
-      (λ b h k. getD-replicate B (b - 1) unfiled unfiled (omega arith) ∙ sym (entry-unfiled sigs links b (zero-word (filedAt b) (omega arith))))))
+      rw (zero-word 0 (omega arith), length-replicate {A = ℕ} B 0) (ap (λ (es : List Entry). record { width = 0; entries = es })
+      (sym (entries-ext sigs links (replicate B unfiled) B (length-replicate B unfiled)
+      (λ b h k. getD-replicate B (b - 1) unfiled unfiled (omega arith) ∙ sym (entry-unfiled sigs links b (zero-word (filedAt b) (omega arith)))))))
 
   zero-tree : treeOf sigs links ≡ nothing
   zero-tree = treeFrom-none (length sigs) sigs links (widthOf links) (rootOf links) (zero-word 2 (omega arith))
