@@ -15,7 +15,7 @@ use Rattle.model.specs.Claim.{Searched}
 use Rattle.lists.proofs.Searching.{search-report, search-bounds}
 use Rattle.lists.specs.Moves.{Moves, Done}
 use Rattle.lists.specs.Stepped.{Refused}
-use Rattle.lists.proofs.Moves.{Rebuilds, clear-moves, file-moves, withdraw-moves}
+use Rattle.lists.proofs.Moves.{clear-moves, file-moves, withdraw-moves, rebuild-moves}
 
 work-same : (W W′ : Work) → W′ .scratch ≡ W .scratch → W′ .marks ≡ W .marks → W′ .output ≡ W .output → W′ ≡ W
 work-same W W′ a b c = λ i. record { scratch = a i; marks = b i; output = c i }
@@ -66,28 +66,27 @@ query rebuild = 0
 query (search q) = q
 query audit = 0
 
-module _ (R : Rebuilds) where
-  pub done-gives : (c : Call) (M : Memory) (o : Report) (M′ : Memory) → Gives c M o M′ → refusal (asksTables (M .signatures) (M .links)) (M .work) c ≡ 0 → Sound (M .signatures) (M .links) → Done c M o M′
-  done-gives (clear F) M o M′ g e S =
-      let x = g .0 .done e in
-      plainly (clear F) M o M′ refl refl (g .1 .counts) (x .0) _ _ (x .1) (x .2) (clear-moves (M .signatures) (M .links) S F e)
-  done-gives (file b s) M o M′ g e S =
-      let x = g .0 .done e S in
-      plainly (file b s) M o M′ refl refl (g .1 .counts) (x .0) _ _ (x .1) (x .2) (file-moves (M .signatures) (M .links) S b s e)
-  done-gives (withdraw b) M o M′ g e S =
-      let x = g .0 .done e S in
-      plainly (withdraw b) M o M′ refl refl (g .1 .counts) (x .0) _ _ (x .1) (x .2) (withdraw-moves (M .signatures) (M .links) S b e)
-  done-gives rebuild M o M′ g e S =
-      ⊎-elim (λ x. plainly rebuild M o M′ refl refl (g .1 .counts) (x .zero) _ _ (g .1 .signatures) (x .words) (R (M .signatures) (M .links) S))
-      (λ x. absurd (x .0 S)) (g .0 .asked e)
-  done-gives (search q) M o M′ g e S =
-      let x = g .0 .done e S in
-      record {
-        report = x .0 ∙ search-report (M .signatures) (M .links) S q;
-        moves = rw (g .1 .signatures, g .1 .links) (record { sound = S; ledger = refl; tree = refl });
-        searched = λ p h. subst (λ (y : ℕ). Searched (ledgerOf (M .signatures) (M .links)) (treeOf (M .signatures) (M .links)) y (M .work) o (M′ .work)) (ap query h)
-            (search-bounds (M .signatures) (M .links) S q (M .work) (M′ .work) o (x .0) (x .1) (x .2));
-      }
-  done-gives audit M o M′ g e S =
-      ⊎-elim (λ x. plainly audit M o M′ refl refl (g .1) (x .0) _ _ (ap (λ (y : Memory). y .signatures) (g .2)) (ap (λ (y : Memory). y .links) (g .2)) (record { sound = S; ledger = refl; tree = refl }))
-      (λ x. absurd (x .1 S)) (g .0 .asked e)
+pub done-gives : (c : Call) (M : Memory) (o : Report) (M′ : Memory) → Gives c M o M′ → refusal (asksTables (M .signatures) (M .links)) (M .work) c ≡ 0 → Sound (M .signatures) (M .links) → Done c M o M′
+done-gives (clear F) M o M′ g e S =
+    let x = g .0 .done e in
+    plainly (clear F) M o M′ refl refl (g .1 .counts) (x .0) _ _ (x .1) (x .2) (clear-moves (M .signatures) (M .links) S F e)
+done-gives (file b s) M o M′ g e S =
+    let x = g .0 .done e S in
+    plainly (file b s) M o M′ refl refl (g .1 .counts) (x .0) _ _ (x .1) (x .2) (file-moves (M .signatures) (M .links) S b s e)
+done-gives (withdraw b) M o M′ g e S =
+    let x = g .0 .done e S in
+    plainly (withdraw b) M o M′ refl refl (g .1 .counts) (x .0) _ _ (x .1) (x .2) (withdraw-moves (M .signatures) (M .links) S b e)
+done-gives rebuild M o M′ g e S =
+    ⊎-elim (λ x. plainly rebuild M o M′ refl refl (g .1 .counts) (x .zero) _ _ (g .1 .signatures) (x .words) (rebuild-moves (M .signatures) (M .links) S))
+    (λ x. absurd (x .0 S)) (g .0 .asked e)
+done-gives (search q) M o M′ g e S =
+    let x = g .0 .done e S in
+    record {
+      report = x .0 ∙ search-report (M .signatures) (M .links) S q;
+      moves = rw (g .1 .signatures, g .1 .links) (record { sound = S; ledger = refl; tree = refl });
+      searched = λ p h. subst (λ (y : ℕ). Searched (ledgerOf (M .signatures) (M .links)) (treeOf (M .signatures) (M .links)) y (M .work) o (M′ .work)) (ap query h)
+          (search-bounds (M .signatures) (M .links) S q (M .work) (M′ .work) o (x .0) (x .1) (x .2));
+    }
+done-gives audit M o M′ g e S =
+    ⊎-elim (λ x. plainly audit M o M′ refl refl (g .1) (x .0) _ _ (ap (λ (y : Memory). y .signatures) (g .2)) (ap (λ (y : Memory). y .links) (g .2)) (record { sound = S; ledger = refl; tree = refl }))
+    (λ x. absurd (x .1 S)) (g .0 .asked e)

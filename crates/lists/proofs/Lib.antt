@@ -6,6 +6,6 @@ pub mod Zeros
 pub mod Steps
 pub mod OnSound
 pub mod OnZeros
-pub mod Every
+pub mod Demand
 pub mod Starts
 pub mod Alike

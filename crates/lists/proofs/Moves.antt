@@ -25,11 +25,9 @@ use Rattle.clear.proofs.Cleared.{clear-sound, clear-tree, clear-ledger}
 use Rattle.file.proofs.Good.{Fileable}
 use Rattle.file.proofs.Filed.{file-sound, file-tree, file-ledger}
 use Rattle.withdraw.proofs.Withdrawn.{withdraw-sound, Another, withdraw-stays, withdraw-loses, withdraw-lengths, withdraw-own, withdraw-others, withdraw-ledger}
+use Rattle.rebuild.proofs.Kept.{rebuild-sound, rebuild-stored, rebuild-ledger}
 use Rattle.lists.specs.Moves.{Moves}
 use Rattle.lists.proofs.Asking.{clear-fits, file-fits, withdraw-fits}
-
-abbrev pub Rebuilds : Type 0
-Rebuilds = (sigs links : List ℕ) → Sound sigs links → Moves sigs links rebuild sigs (rebuildLinks sigs links)
 
 module _ (sigs links : List ℕ) (S : Sound sigs links) where
   pub clear-moves : (F : ℕ) → clearRefusal (asksTables sigs links) F ≡ 0 → Moves sigs links (clear F) (clearSignatures (length sigs)) (clearLinks (length sigs) F)
@@ -52,6 +50,9 @@ module _ (sigs links : List ℕ) (S : Sound sigs links) where
       go : (t : Bool) → isStored s (ledgerOf sigs links) ≡ t → insert (widthOf links) s (treeOf sigs links) ≡ grown (ledgerOf sigs links) (treeOf sigs links) (file b s)
       go true h = rw (h, grown) (insert-stored (widthOf links) (treeOf sigs links) (sound-proper sigs links S) s (stored-leaf sigs links S s h))
       go false h = rw (h, grown) refl
+
+  pub rebuild-moves : Moves sigs links rebuild sigs (rebuildLinks sigs links)
+  rebuild-moves = record { sound = rebuild-sound sigs links S; ledger = rebuild-ledger sigs links S; tree = rebuild-stored sigs links S }
 
   module _ (b : ℕ) (b1 : 1 ≤ b) (bB : b ≤ length sigs) (filed : filedOf links b ≡ 1) where
     abbrev s : ℕ
