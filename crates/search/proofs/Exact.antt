@@ -29,6 +29,7 @@ use Rattle.search.proofs.Steps.{found-empty, found-list}
 use Rattle.search.proofs.Marks.{pick-false, Went}
 use Rattle.search.proofs.Listed.{marks-are, tested, matching-kept}
 use Rattle.search.proofs.Any.{cleared-at, cleared-long, cleared-drop, listed-none, grown-marks, grown-found, walk-from-cleared}
+use Rattle.search.proofs.Returns.{report-same}
 use Rattle.search.proofs.Shaped.{markAll, Unmarked, hits, reads, compares, walk-marks}
 use Rattle.search.proofs.Hits.{hits-blocks, reads-few, compares-few, few-heads, hits-distinct, few-hits, hits-cover, cover-hits}
 use Rattle.tables.proofs.Counts.{heads, heads-count}
@@ -74,9 +75,6 @@ marked-stays (b ∷ bs) m i l h = marked-stays bs (mark m b) i (rw length-set l)
 marked-in : (bs m : List ℕ) (b : ℕ) → List·Memᴰ b bs → b - 1 < length m → getD (markAll m bs) (b - 1) 0 ≡ 1
 marked-in (x ∷ bs) m b (List·Memᴰ·head e) l = rw (← e) (marked-stays bs (mark m b) (b - 1) (rw length-set l) (getD-set-same m (b - 1) 1 0 l))
 marked-in (x ∷ bs) m b (List·Memᴰ·tail n) l = marked-in bs (mark m x) b n (rw length-set l)
-
-report-same : (f f′ c c′ b b′ : ℕ) → f ≡ f′ → c ≡ c′ → b ≡ b′ → _≡_ {A = Report} (record { answer = 0; found = f; compares = c; bits = b }) (record { answer = 0; found = f′; compares = c′; bits = b′ })
-report-same f f′ c c′ b b′ ef ec eb = rw (ef, ec, eb)
 
 module _ (sigs links : List ℕ) (q : ℕ) (m out : List ℕ) (S : Sound sigs links) (le : length sigs ≤ length m) where
   abbrev B : ℕ

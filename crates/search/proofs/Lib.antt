@@ -7,3 +7,6 @@ pub mod Shaped
 pub mod Hits
 pub mod Exact
 pub mod Promise
+pub mod Asking
+pub mod Returns
+pub mod Listings

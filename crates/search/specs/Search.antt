@@ -6,7 +6,7 @@ use mathlib.Core.Path.{_≡_}
 use mathlib.Core.Bool.{Bool, true, false}
 use mathlib.Core.List.{List, [], _∷_, _++_}
 use lib.Dec.{eqb, leb, ltb}
-use lib.ListN.{length, getD, set, drop, replicate}
+use lib.ListN.{length, getD, set, take, drop, replicate}
 use Rattle.model.specs.Limits.{widest, mostBlocks}
 use Rattle.model.specs.Basics.{keep, upFrom}
 use Rattle.model.specs.Signature.{bitAt, coversb}
@@ -126,3 +126,15 @@ foundTwin sigs links q marks output =
     let z : List ℕ = cleared (length sigs) marks in
     let w : Budget × List ℕ = walkTwin (widthOf links) sigs links q (rootOf links) (lent (length sigs)) z in
     pick (eqb (rootOf links) 0) (bare 0, z, output) (pick (eqb (w .0 .nodes) 0) (bare unsound, w .1, output) (listTwin (length sigs) w output))
+
+-- the first n words of the output are the marked ones of the first b blocks
+pub record Lists (marks : List ℕ) (b n : ℕ) (output : List ℕ) : Type 0 where
+  pub count : n ≡ length (listed b marks)
+  pub front : take n output ≡ listed b marks
+
+-- A part of the listing, where `found` blocks are marked in all: it takes a list of the first `from` blocks, n of them marked, to one
+-- of the first `to`, r of them marked, and leaves the words beyond `found`.
+pub record Listing (marks : List ℕ) (found from n : ℕ) (output : List ℕ) (to r : ℕ) (output′ : List ℕ) : Type 0 where
+  pub long : length output′ ≡ length output
+  pub beyond : drop found output′ ≡ drop found output
+  pub lists : (B : ℕ) → to ≤ B → found ≡ length (listed B marks) → Lists marks from n output → Lists marks to r output′
