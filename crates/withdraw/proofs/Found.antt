@@ -8,8 +8,8 @@ use Rattle.model.specs.Tables.{word, rootAt, filedOf, signatureOf}
 use Rattle.model.specs.Sound.{Shape, Rooted, none, some, Chain, blocksIn, SoundAt}
 use Rattle.model.specs.File.{spotOf}
 use Rattle.tables.proofs.Trees.{depth-root}
-use Rattle.tables.proofs.Ways.{Reached, reach, spot, part-holds, found, spotFrom-spot}
-use Rattle.tables.proofs.After.{Old, old}
+use Rattle.tables.proofs.Ways.{reach, part-holds, found, spotFrom-spot}
+use Rattle.tables.proofs.After.{old}
 
 -- the chain at the end of the walk by b's signature, with b on it
 pub record Found (B F : ℕ) (sigs L : List ℕ) (b : ℕ) : Type 0 where

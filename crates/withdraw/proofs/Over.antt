@@ -3,14 +3,13 @@
 -- Assumes nothing.
 use Prim.Native.Nat.{ℕ, zero, suc, _-_, _≤_, _<_}
 use native.Mathlib.Omega.{arith}
-use mathlib.Core.Path.{_≡_, refl, sym, _∙_, ap, subst}
+use mathlib.Core.Path.{_≡_, refl, ap, subst}
 use mathlib.Core.Logic.{_⊎_, inl, inr}
 use mathlib.Core.List.{List}
 use borrow.Author.Tests.{le-leb, lt-leb}
 use Rattle.model.specs.Signature.{bitAt}
-use Rattle.model.specs.Tables.{word, sideAt, sideOf, positionOf}
+use Rattle.model.specs.Tables.{word, sideAt, sideOf}
 use Rattle.model.specs.Sound.{Shape, Holds}
-use Rattle.model.specs.File.{edgeAt}
 use Rattle.model.specs.Withdraw.{parentFrom}
 use Rattle.tables.proofs.Trees.{depth}
 use Rattle.tables.proofs.Sides.{forked, edge-small, sides-held}

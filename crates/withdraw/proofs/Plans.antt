@@ -1,6 +1,6 @@
 -- Each case of a plan makes the definition's stores: the tests that led there are the definition's tests.
 -- Assumes nothing.
-use Prim.Native.Nat.{ℕ, zero, suc, _+_, _-_, _*_, _≤_, _<_}
+use Prim.Native.Nat.{ℕ, _-_, _≤_, _<_}
 use native.Mathlib.Omega.{arith}
 use mathlib.Core.Path.{_≡_, refl, sym, _∙_, ap}
 use mathlib.Core.Logic.{_⊎_, inl, inr, _≢_}
@@ -9,14 +9,15 @@ use mathlib.Core.List.{List, [], _∷_, List·Memᴰ, List·Memᴰ·cases-cons}
 use lib.Dec.{leb}
 use lib.ListN.{length}
 use borrow.Author.Tests.{eq-eqb, ne-eqb, le-leb, lt-leb, leb-true}
-use Rattle.model.specs.Tables.{word, linksOf, widthOf, rootOf, countOf, nextAt, filedAt, nextOf, filedOf, sideOf, signatureOf}
-use Rattle.model.specs.Sound.{Sound, Chain}
+use Rattle.model.specs.Tables.{word, linksOf, widthOf, rootOf, countOf, nextAt, filedAt, nextOf, sideOf, signatureOf}
+use Rattle.model.specs.Sound.{Sound}
 use Rattle.model.specs.Stores.{_↤_}
 use Rattle.model.specs.File.{spotOf}
-use Rattle.model.specs.Withdraw.{siblingAt, parentOf, withdrawalStores, unlinkStores, raiseStores, withdrawStores}
-use Rattle.tables.specs.Walk.{NodeFits, EdgeOf, Parent, Ends}
+use Rattle.model.specs.Withdraw.{parentOf, withdrawalStores, unlinkStores, withdrawStores}
+use Rattle.tables.specs.Walk.{EdgeOf, Ends}
 use Rattle.tables.proofs.Counts.{filed-one}
 use Rattle.tables.proofs.Walks.{sound-fits}
+use Rattle.withdraw.specs.Asking.{Passed}
 use Rattle.withdraw.specs.Plan.{Plans, PlansChain, PlansRaise, PlansHead, storesOf}
 use Rattle.withdraw.proofs.Found.{Found, found-chain}
 use Rattle.withdraw.specs.declared.plan.Plan.{Plan}
@@ -71,16 +72,16 @@ module _ (B F : ℕ) (L : List ℕ) (b s link x : ℕ) (e : x ≡ nextOf L b) wh
     head-raises p z f (inr P) = rw (eq-eqb b b refl, withdrawStores, eq-eqb (nextOf L b) 0 ends, lt-leb (rootOf L) B (P .root), ← P .parent) (f (P .node) (P .fit))
 
 -- on sound tables, by where the walk ends: there is a block to withdraw, and its chain is found
-module _ (sigs L : List ℕ) (b : ℕ) (b1 : 1 ≤ b) (bB : b ≤ length sigs) (S : Sound sigs L) (filed : filedOf L b ≢ 0) where
+module _ (sigs L : List ℕ) (b : ℕ) (A : Passed sigs L b) (S : Sound sigs L) where
   pub some-filed : countOf L ≢ 0
-  some-filed = omega (arith, S .counted, filed-one L b (length sigs) b1 bB)
+  some-filed = omega (arith, S .counted, filed-one L b (length sigs) (A .from) (A .to), A .filed)
 
   module _ (s link above : ℕ) (is : s ≡ signatureOf sigs b) (E : Ends (length sigs) (widthOf L) L s link above) where
     pub walk-found : link ≢ 0
     walk-found = E .fit (sound-fits S s)
 
     C : Found (length sigs) (widthOf L) sigs L b
-    C = found-chain S b b1 bB (omega (arith, S .filed-bit b b1 bB))
+    C = found-chain S b (A .from) (A .to) (omega (arith, S .filed-bit b (A .from) (A .to), A .filed))
 
     at : link ≡ spotOf (length sigs) (widthOf L) L (signatureOf sigs b)
     at = E .spot walk-found ∙ ap (spotOf (length sigs) (widthOf L) L) is
@@ -91,7 +92,7 @@ module _ (sigs L : List ℕ) (b : ℕ) (b1 : 1 ≤ b) (bB : b ≤ length sigs) (
     pub plans-head : (p : Plan) → word L link ≡ b → PlansHead (length sigs) (widthOf L) L b s link above p → Plans (length sigs) L b p (storesOf sigs L b)
     plans-head p e f =
         let e′ : word L (spotOf (length sigs) (widthOf L) L (signatureOf sigs b)) ≡ b = ap (word L) (sym at) ∙ e in
-        rw (e′, ← at, ← is) (f (E .top walk-found (omega arith)))
+        rw (e′, ← at, ← is) (f (E .top walk-found (omega (arith, A .to))))
 
     pub plans-chain : (p : Plan) → word L link ≢ b → PlansChain (length sigs) L b (word L link) p → Plans (length sigs) L b p (storesOf sigs L b)
     unfolding withdrawStores

@@ -7,12 +7,12 @@ use mathlib.Core.Logic.{_≢_, inl, inr}
 use mathlib.Core.Bool.{Bool, true, false}
 use mathlib.Core.List.{List, []}
 use lib.ListN.{length, length-set}
-use Rattle.model.specs.Tables.{filedOf}
 use Rattle.model.specs.Stores.{stores}
 use Rattle.model.specs.Withdraw.{withdrawSignatures, withdrawLinks}
 use Rattle.model.specs.Questions.{asksTables, withdrawRefusal}
-use Rattle.model.specs.Promises.{unsound, Changes, WithdrawPromise}
+use Rattle.model.specs.Promises.{unsound, WithdrawPromise}
 use Rattle.model.proofs.Stores.{length-stores}
+use Rattle.withdraw.specs.Asking.{Withdraws}
 use Rattle.withdraw.specs.Plan.{isPlan, planStores, PlansRight}
 use Rattle.withdraw.specs.declared.plan.Plan.{Plan}
 use Rattle.withdraw.specs.declared.plan.Plan.the-variants.{Unfit, Relink, Raise}
@@ -26,22 +26,19 @@ no-stores B L b Unfit e = refl
 no-stores B L b (Relink at v) e = absurd (true-false refl e)
 no-stores B L b (Raise above i r) e = absurd (true-false refl e)
 
-module _ (sigs L : List ℕ) (b : ℕ) (filed : filedOf L b ≢ 0) (p : Plan) (right : PlansRight sigs L b p) (L′ : List ℕ) (made : L′ ≡ stores L (planStores (length sigs) L b p)) where
-  abbrev Left : ℕ → List ℕ → Type 0
-  Left r sigs′ = Changes 0 sigs L (withdrawSignatures sigs b) (withdrawLinks sigs L b) r sigs′ L′
-
-  pub gives-up : isPlan p ≡ false → Left unsound sigs
+module _ (sigs L : List ℕ) (b : ℕ) (p : Plan) (right : PlansRight sigs L b p) (L′ : List ℕ) (made : L′ ≡ stores L (planStores (length sigs) L b p)) where
+  pub gives-up : isPlan p ≡ false → Withdraws sigs L b unsound sigs L′
   gives-up f = record {
     refused = λ n. absurd (n refl);
-    done = λ _ S. absurd (true-false (right S filed .is) f);
+    done = λ _ S. absurd (true-false (right S .is) f);
     anyway = λ _. inr (refl, refl, made ∙ ap (stores L) (no-stores (length sigs) L b p f));
   }
 
-  pub carries-out : isPlan p ≡ true → Left 0 (withdrawSignatures sigs b)
+  pub carries-out : isPlan p ≡ true → Withdraws sigs L b 0 (withdrawSignatures sigs b) L′
   unfolding withdrawLinks
   carries-out f = record {
     refused = λ n. absurd (n refl);
-    done = λ _ S. (refl, refl, made ∙ ap (stores L) (right S filed .does));
+    done = λ _ S. (refl, refl, made ∙ ap (stores L) (right S .does));
     anyway = λ _. inl (refl, length-set sigs (b - 1) 0, ap length made ∙ length-stores L (planStores (length sigs) L b p));
   }
 
@@ -53,5 +50,5 @@ module _ (sigs L : List ℕ) (b r : ℕ) (first : r ≡ withdrawRefusal (asksTab
     anyway = λ z. absurd (n (first ∙ z));
   }
 
-  pub keeps : r ≡ 0 → (a : ℕ) (sigs′ L′ : List ℕ) → Changes 0 sigs L (withdrawSignatures sigs b) (withdrawLinks sigs L b) a sigs′ L′ → WithdrawPromise sigs L b a sigs′ L′
+  pub keeps : r ≡ 0 → (a : ℕ) (sigs′ L′ : List ℕ) → Withdraws sigs L b a sigs′ L′ → WithdrawPromise sigs L b a sigs′ L′
   keeps z a sigs′ L′ C = let e : withdrawRefusal (asksTables sigs L) b ≡ 0 = sym first ∙ z in rw e C

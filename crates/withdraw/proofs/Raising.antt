@@ -2,15 +2,15 @@
 -- first free node: no word of the sibling changes, and the parent stands nowhere else in the tree. Where the leaf is the whole tree,
 -- the root becomes 0. Either way the plain tree loses that leaf.
 -- Assumes nothing.
-use Prim.Native.Nat.{ℕ, zero, suc, _+_, _-_, _*_, _^_, _≤_, _<_}
+use Prim.Native.Nat.{ℕ, _+_, _-_, _≤_, _<_}
 use native.Mathlib.Omega.{arith}
 use mathlib.Core.Path.{_≡_, refl, sym, _∙_, ap, subst}
 use mathlib.Core.Logic.{_⊎_, inl, inr, _≢_}
 use mathlib.Core.List.{List, [], _∷_, _++_, List·Memᴰ, List·Memᴰ·head, List·Memᴰ·tail, List·Memᴰ·cases-cons, List·Memᴰ·not-nil, Memᴰ·cast}
 use lib.Pow.{pow-pos}
 use Rattle.model.specs.Signature.{bitAt}
-use Rattle.model.specs.Tree.{Tree, leaf, remove, Edge, edge, Agrees, Untested}
-use Rattle.model.specs.Tables.{word, rootAt, freeAt, countAt, nextAt, filedAt, positionAt, sideAt, leftAt, rightAt, rootOf, freeOf, nextOf, filedOf, positionOf, sideOf, signatureOf, treeFrom}
+use Rattle.model.specs.Tree.{leaf, remove, Edge, edge, Agrees, Untested}
+use Rattle.model.specs.Tables.{word, rootAt, freeAt, nextAt, positionAt, sideAt, leftAt, rightAt, rootOf, freeOf, nextOf, filedOf, sideOf, signatureOf}
 use Rattle.model.specs.Sound.{Shape, tip, fork, Rooted, none, some, Holds, Placed, nodes, blocks, blocksIn, FreeChain, SoundAt}
 use Rattle.model.specs.Stores.{Store, _↤_, stores}
 use Rattle.model.specs.Withdraw.{withdrawalStores, lastStores, raiseStores, withdrawSignatures}
@@ -18,9 +18,9 @@ use Rattle.model.proofs.Stores.{stored-same, stored-at}
 use Rattle.tables.proofs.Shapes.{holds-same, placed-same}
 use Rattle.tables.proofs.Counts.{free-same, free-range}
 use Rattle.tables.proofs.Trees.{treeShape, treeRooted, tree-same, tree-of-sound}
-use Rattle.tables.proofs.Sides.{pick, forked, noded, edge-small, tree-forked, on-side, off-side, which-side, sides-held, not-on-sides, sides-placed, sides-blocks}
+use Rattle.tables.proofs.Sides.{pick, forked, edge-small, tree-forked, on-side, off-side, which-side, sides-held, not-on-sides, sides-placed, sides-blocks}
 use Rattle.tables.proofs.Steps.{remove-noded, remove-raised, remove-leaf}
-use Rattle.tables.proofs.Ways.{Way, spot, replace, pathTo, part-blocks, part-nodes, part-holds, part-placed, replace-tree, found}
+use Rattle.tables.proofs.Ways.{Way, spot, replace, pathTo, part-blocks, part-nodes, part-holds, part-placed, replace-tree}
 use Rattle.tables.proofs.Links.{Apart, spot-link, link-other}
 use Rattle.tables.proofs.Graft.{SameNode, graft-nodes-new, graft-nodes-old, graft-nodes-cases, spot-above, part-gone}
 use Rattle.tables.proofs.After.{Old, old, Kept, Quiet, kept-withdrawal, after, after-graft}

@@ -1,23 +1,22 @@
 -- What a withdrawal leaves of sound tables, and the chains that lose a block and stay. Only b's row, the count and one word change: the
 -- leaf's reference, or the next word of the block before b. So the tree has another chain in its leaf's place, of the same signature.
 -- Assumes nothing.
-use Prim.Native.Nat.{ℕ, zero, suc, _+_, _-_, _*_, _^_, _≤_, _<_}
+use Prim.Native.Nat.{ℕ, _≤_}
 use native.Mathlib.Omega.{arith}
 use mathlib.Core.Path.{_≡_, refl, sym, _∙_, ap, subst}
 use mathlib.Core.Logic.{_⊎_, inl, inr, _≢_}
 use mathlib.Core.List.{List, [], _∷_, List·Memᴰ, List·Memᴰ·head, List·Memᴰ·tail, List·Memᴰ·cases-cons, List·Memᴰ·not-nil, Memᴰ·cast}
-use lib.ListN.{length}
 use lib.Pow.{pow-pos}
-use Rattle.model.specs.Tree.{Tree, leaf, remove, Agrees}
-use Rattle.model.specs.Tables.{word, rootAt, freeAt, countAt, nextAt, filedAt, positionAt, sideAt, rootOf, freeOf, nextOf, filedOf, positionOf, sideOf, signatureOf, treeFrom}
-use Rattle.model.specs.Sound.{Shape, tip, Rooted, none, some, Chain, Holds, Placed, nodes, blocks, FreeChain, SoundAt}
+use Rattle.model.specs.Tree.{leaf, remove, Agrees}
+use Rattle.model.specs.Tables.{word, rootAt, freeAt, countAt, nextAt, filedAt, positionAt, sideAt, rootOf, freeOf, nextOf, filedOf, signatureOf, treeFrom}
+use Rattle.model.specs.Sound.{Shape, tip, some, Holds, Placed, nodes, blocks, FreeChain, SoundAt}
 use Rattle.model.specs.Stores.{Store, _↤_, stores}
 use Rattle.model.specs.Withdraw.{withdrawalStores, unlinkStores, headStores, withdrawSignatures}
 use Rattle.model.proofs.Stores.{stored-same, stored-at}
 use Rattle.model.proofs.Pigeon.{without, without-keeps, without-in, without-gone}
 use Rattle.tables.proofs.Shapes.{chain-same, chain-no-return}
 use Rattle.tables.proofs.Counts.{free-same, free-range}
-use Rattle.tables.proofs.Trees.{treeShape, treeRooted, tree-of-sound}
+use Rattle.tables.proofs.Trees.{treeRooted, tree-of-sound}
 use Rattle.tables.proofs.Ways.{Way, spot, replace, pathTo, part-blocks, part-holds, part-placed, replace-tree}
 use Rattle.tables.proofs.Links.{Apart, spot-link, link-other}
 use Rattle.tables.proofs.Graft.{SameNode, graft-nodes-old, graft-nodes-cases}

@@ -2,23 +2,23 @@
 -- loses its leaf otherwise, their ledger loses the pair, and every other row and signature is as before. The walk by the block's own
 -- signature ends at its chain; each of the four ways that the chain may stand is proved by itself, and here they meet.
 -- Assumes nothing.
-use Prim.Native.Nat.{ℕ, zero, suc, _-_, _≤_}
+use Prim.Native.Nat.{ℕ, _-_, _≤_}
 use native.Mathlib.Decide.{ℕ-discrete}
 use native.Mathlib.Omega.{arith}
-use mathlib.Core.Path.{_≡_, refl, sym, _∙_, ap, subst}
+use mathlib.Core.Path.{_≡_, refl, sym, subst}
 use mathlib.Core.Logic.{_⊎_, inl, inr, _≢_}
 use mathlib.Core.List.{List, [], _∷_, List·Memᴰ, List·Memᴰ·cases-cons, List·Memᴰ·not-nil}
 use lib.ListN.{length, length-set}
 use borrow.Author.Tests.{eq-eqb, ne-eqb, le-leb, lt-leb}
 use Rattle.model.specs.Tree.{remove}
-use Rattle.model.specs.Tables.{word, rootAt, widthOf, rootOf, nextOf, filedOf, sideOf, signatureOf, treeOf}
+use Rattle.model.specs.Tables.{word, rootAt, widthOf, rootOf, nextOf, filedOf, signatureOf, treeOf}
 use Rattle.model.specs.Sound.{Shape, tip, Rooted, none, some, Holds, blocksIn, SoundAt, Sound}
 use Rattle.model.specs.Stores.{stores}
 use Rattle.model.specs.File.{spotOf}
-use Rattle.model.specs.Withdraw.{siblingAt, parentOf, raiseStores, withdrawStores, withdrawSignatures, withdrawLinks}
+use Rattle.model.specs.Withdraw.{parentOf, withdrawStores, withdrawSignatures, withdrawLinks}
 use Rattle.model.specs.Questions.{withdraw}
 use Rattle.model.specs.Ledger.{unfiled, ledgerOf, entered}
-use Rattle.tables.proofs.Trees.{depth, depth-root}
+use Rattle.tables.proofs.Trees.{depth-root}
 use Rattle.tables.proofs.Sides.{forked, edge-small, sides-held}
 use Rattle.tables.proofs.Ways.{Way, Reached, reach, spot, part-holds, found, spotFrom-spot}
 use Rattle.tables.proofs.After.{signature-own, Old, old}

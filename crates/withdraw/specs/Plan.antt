@@ -2,11 +2,11 @@
 -- Assumes nothing.
 use Prim.Native.Nat.{ℕ, _-_, _≤_, _<_}
 use mathlib.Core.Path.{_≡_}
-use mathlib.Core.Logic.{_≢_, _⊎_}
+use mathlib.Core.Logic.{_⊎_}
 use mathlib.Core.Bool.{Bool, true, false}
 use mathlib.Core.List.{List, [], _∷_, List·Memᴰ}
 use lib.ListN.{length}
-use Rattle.model.specs.Tables.{word, linksOf, widthOf, rootOf, countOf, filedOf, signatureOf}
+use Rattle.model.specs.Tables.{word, linksOf, widthOf, rootOf, countOf, signatureOf}
 use Rattle.model.specs.Sound.{Chain, Sound}
 use Rattle.model.specs.Stores.{Store, _↤_}
 use Rattle.model.specs.File.{spotOf}
@@ -69,4 +69,4 @@ storesOf sigs links b =
 
 -- the plan on sound tables
 abbrev pub PlansRight : List ℕ → List ℕ → ℕ → Plan → Type 0
-PlansRight sigs links b p = Sound sigs links → filedOf links b ≢ 0 → Plans (length sigs) links b p (storesOf sigs links b)
+PlansRight sigs links b p = Sound sigs links → Plans (length sigs) links b p (storesOf sigs links b)

@@ -1,8 +1,5 @@
 // The questions of a withdrawal, in order (document 01, "The questions, in order").
-ghost use Prim.Native.Nat.{_≤_};
 ghost use mathlib.Core.Path.{_≡_};
-ghost use mathlib.Core.Logic.{_≢_};
-ghost use lib.ListN.{length};
 ghost use Rattle.model.specs.Questions.{asksTables, withdrawRefusal};
 ghost use Rattle.withdraw.specs.Asking.{Passed};
 

@@ -2,23 +2,18 @@
 mod ask;
 mod plan;
 mod store;
+mod words;
 
-ghost use Prim.Native.Nat.{_≤_};
-ghost use mathlib.Core.Logic.{_≢_};
-ghost use lib.ListN.{length};
-ghost use Rattle.model.specs.Tables.{widthOf, filedOf};
-ghost use Rattle.model.specs.Sound.{FitsAt};
-ghost use Rattle.model.specs.Withdraw.{withdrawSignatures, withdrawLinks};
-ghost use Rattle.model.specs.Promises.{Changes, WithdrawPromise};
+ghost use Rattle.model.specs.Promises.{WithdrawPromise};
+ghost use Rattle.withdraw.specs.Asking.{Passed, Withdraws};
 
-// The answer where the tables are found unsound: question 11.
+// question 11: are the tables sound?
 const UNSOUND: u32 = 11;
 
 // Withdraws a block that no question refuses. With 11 nothing has been stored.
 fn carry_out(signatures: &mut [u64], links: &mut [u32], block: u32) -> u32
-    requires { ⌜ FitsAt (length (now signatures)) (widthOf (now links)) (now signatures) (now links) ⌝ }
-    requires { ⌜ (1 ≤ block) × (block ≤ length (now signatures)) × (filedOf (now links) block ≢ 0) ⌝ }
-    ensures { λ r. ⌜ Changes 0 (now (signatures .entry)) (now (links .entry)) (withdrawSignatures (now (signatures .entry)) block) (withdrawLinks (now (signatures .entry)) (now (links .entry)) block) r (now (signatures .exit)) (now (links .exit)) ⌝ }
+    requires { ⌜ Passed (now signatures) (now links) block ⌝ }
+    ensures { λ r. ⌜ Withdraws (now (signatures .entry)) (now (links .entry)) block r (now (signatures .exit)) (now (links .exit)) ⌝ }
 {
     let blocks = signatures.len();
     let at = block as usize - 1;

@@ -2,9 +2,10 @@
 ghost use mathlib.Core.Path.{_≡_};
 ghost use Prim.Native.Nat.{_≤_, _<_};
 ghost use lib.ListN.{length};
-ghost use Rattle.model.specs.Tables.{linksOf, widthOf, countOf};
-ghost use Rattle.model.specs.Sound.{FitsAt};
+ghost use Rattle.model.specs.Tables.{linksOf, countOf};
+ghost use Rattle.withdraw.specs.Asking.{Passed};
 ghost use Rattle.withdraw.specs.Plan.{PlanFits, IsBefore, PlansChain, PlansRaise, PlansHead, PlansRight};
+use crate::words;
 
 // What is stored besides the block's row and the count: nothing, for unfit tables; a reference or a next word at an address; or a
 // sibling in its parent's place (the address of the parent's reference, the parent's node number, the sibling's reference).
@@ -51,7 +52,9 @@ pub fn plan_chain(links: &[u32], blocks: usize, block: u32, head: u32) -> Plan
         return Plan::Unfit;
     }
     let next = tables::rows::next_of(links, block as usize);
-    Plan::Relink(2 * before as usize + 3, next)
+    // the address of the next word of the block before
+    let at = 2 * before as usize + 3;
+    Plan::Relink(at, next)
 }
 
 // The sibling takes the place of the parent, whose reference is at address `above`.
@@ -101,21 +104,20 @@ pub fn plan_head(
         return Plan::Relink(link, next);
     }
     if above == 0 {
-        return Plan::Relink(2, 0);
+        return Plan::Relink(words::ROOT, 0);
     }
     plan_raise(links, blocks, width, block, signature, above)
 }
 
 // The whole plan: walks by the block's own signature to its chain.
 pub fn plan_block(signatures: &[u64], links: &[u32], block: u32) -> Plan
-    requires { ⌜ FitsAt (length (now signatures)) (widthOf (now links)) (now signatures) (now links) ⌝ }
-    requires { ⌜ (1 ≤ block) × (block ≤ length (now signatures)) ⌝ }
+    requires { ⌜ Passed (now signatures) (now links) block ⌝ }
     ensures right { λ r. ⌜ PlansRight (now (signatures .entry)) (now (links .entry)) block r ⌝ }
     ensures within { λ r. ⌜ PlanFits (length (now (signatures .entry))) (now (links .entry)) r ⌝ }
 {
     let blocks = signatures.len();
-    let width = links[0];
-    if links[4] == 0 {
+    let width = links[words::WIDTH];
+    if links[words::COUNT] == 0 {
         return Plan::Unfit;
     }
     let signature = tables::rows::signature_of(signatures, block as usize);

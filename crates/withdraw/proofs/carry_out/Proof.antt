@@ -11,10 +11,10 @@ sub-at : tie.Need-sub-at
 sub-at c = search needs
 
 plan-block-requires : tie.Need-plan-block-requires
-plan-block-requires c κs = let p = c .before .before .before .before .pre in (p .0, (p .1 .0, p .1 .1))
+plan-block-requires c κs = c .before .before .before .before .pre
 
 make-requires : tie.Need-make-requires
-make-requires c κs = let p = c .before .before .before .before .before .before .pre in ((p .0 .blocks-to, p .0 .links-long, p .1 .0, p .1 .1), c .before .plan-block .ensures .1)
+make-requires c κs = let p = c .before .before .before .before .before .before .pre in ((p .fits .blocks-to, p .fits .links-long, p .from, p .to), c .before .plan-block .ensures .1)
 
 same-length : tie.Need-same-length
 same-length c = search needs
@@ -23,7 +23,7 @@ same-length-2 : tie.Need-same-length-2
 same-length-2 c = search needs
 
 returns : tie.Need-returns
-returns c = gives-up _ _ _ (c .before .before .before .before .before .before .before .before .before .before .pre .1 .2) _ (c .before .before .before .before .before .plan-block .ensures .0) _ (c .before .before .before .make .ensures .1) (sym (c .before .before .before .make .ensures .0) ∙ not-true _ (c .if1 .taken))
+returns c = gives-up _ _ _ _ (c .before .before .before .before .before .plan-block .ensures .0) _ (c .before .before .before .make .ensures .1) (sym (c .before .before .before .make .ensures .0) ∙ not-true _ (c .if1 .taken))
 
 mul-signatures : tie.Need-mul-signatures
 mul-signatures c = search needs
@@ -38,7 +38,7 @@ same-length-4 : tie.Need-same-length-4
 same-length-4 c = search needs
 
 returns-2 : tie.Need-returns-2
-returns-2 c = carries-out _ _ _ (c .before .before .before .before .before .before .before .before .before .before .pre .1 .2) _ (c .before .before .before .before .before .plan-block .ensures .0) _ (c .before .before .before .make .ensures .1) (sym (c .before .before .before .make .ensures .0) ∙ not-false _ (c .if1 .left))
+returns-2 c = carries-out _ _ _ _ (c .before .before .before .before .before .plan-block .ensures .0) _ (c .before .before .before .make .ensures .1) (sym (c .before .before .before .make .ensures .0) ∙ not-false _ (c .if1 .left))
 
 pub carry-out-spec : {M : Type 1} → statement M
 carry-out-spec =

@@ -9,7 +9,7 @@ first-no-requires : tie.Need-first-no-requires
 first-no-requires c κs = search needs
 
 carry-out-requires : tie.Need-carry-out-requires
-carry-out-requires c κs = let k = c .before .before .before .first-no .ensures .1 (c .before .before .if1 .taken) in (k .fits, (k .from, k .to, k .filed))
+carry-out-requires c κs = c .before .before .before .first-no .ensures .1 (c .before .before .if1 .taken)
 
 same-length : tie.Need-same-length
 same-length c = search needs

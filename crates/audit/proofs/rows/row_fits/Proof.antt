@@ -1,5 +1,4 @@
--- `audit::rows::row_fits` meets its contract: each return is a part of the test of a row.
--- Assumes nothing.
+-- `audit::rows::row_fits` meets its contract. Assumes nothing.
 use mathlib.Core.Path.{sym, _∙_}
 use borrow.Author.Tests.{eq-eqb, ne-eqb, not-true, not-false}
 use Rattle.audit.specs.Audit.{rowOk}

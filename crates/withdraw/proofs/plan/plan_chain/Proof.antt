@@ -23,14 +23,14 @@ returns-2 c = ((λ cs h k q m. let z = c .before .find-before .ensures .0 cs q m
 next-of-requires : tie.Need-next-of-requires
 next-of-requires c κs = omega arith
 
-cast-t9 : tie.Need-cast-t9
-cast-t9 c = search needs
+cast-at : tie.Need-cast-at
+cast-at c = search needs
 
-mul-t10 : tie.Need-mul-t10
-mul-t10 c = search needs
+mul-at : tie.Need-mul-at
+mul-at c = search needs
 
-add-t11 : tie.Need-add-t11
-add-t11 c = search needs
+add-at : tie.Need-add-at
+add-at c = search needs
 
 returns-3 : tie.Need-returns-3
 returns-3 c = ((λ cs h k q m. unlinks _ _ _ _ _ _ (c .before .before .find-before .ensures .0 cs q m .0) (c .next-of .ensures)), (omega arith, omega (arith, c .before .before .find-before .ensures .1)))
@@ -44,7 +44,7 @@ plan-chain-spec =
     find-before-requires
     returns-2
     next-of-requires
-    cast-t9
-    mul-t10
-    add-t11
+    cast-at
+    mul-at
+    add-at
     returns-3)
