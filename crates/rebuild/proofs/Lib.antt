@@ -6,3 +6,5 @@ pub mod Tree
 pub mod Rebuilt
 pub mod Kept
 pub mod Collecting
+pub mod Freeing
+pub mod Whole
