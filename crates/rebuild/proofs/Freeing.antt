@@ -20,7 +20,7 @@ free-turn B i x links after whole h ex ea e =
     let a : positionAt B (i + 1) ≡ positionAt B i + 3 = omega arith in
     let three : List ℕ = 0 ∷ freeFrom B (i + 1) ∷ 0 ∷ [] in
     let rest : List ℕ = freeNodes (B - (i + 1)) (i + 1) in
-    let w : freeNodes (B - i) i ≡ three ++ rest = 
+    let w : freeNodes (B - i) i ≡ three ++ rest =
     ap (λ (m : ℕ). freeNodes m i) n ∙ free-step B (B - (i + 1)) i (omega arith) ∙ ap (λ (k : ℕ). 0 ∷ freeFrom B k ∷ 0 ∷ freeNodes (B - (i + 1)) k) (sym o) in
     let z : after ≡ sets links (positionAt B i) three = ea ∙ node-stores B links i 0 x 0 ∙ ap (λ (y : ℕ). sets links (positionAt B i) (0 ∷ y ∷ 0 ∷ [])) ex in
     ap (λ (l : List ℕ). sets l (positionAt B (i + 1)) rest) z

@@ -8,3 +8,4 @@ pub mod Kept
 pub mod Collecting
 pub mod Freeing
 pub mod Whole
+pub mod Answer

@@ -7,9 +7,20 @@ ghost use Prim.Native.Nat.{_≤_};
 ghost use lib.ListN.{length, drop};
 ghost use Rattle.model.specs.Sound.{Sound};
 ghost use Rattle.model.specs.Rebuild.{rebuildLinks};
+ghost use Rattle.model.specs.Promises.{RebuildPromise};
+use tables::front::tables_fit;
+
+// question 4: the lengths, B, F and words 0 and 1 do not fit
+const UNFIT: u32 = 4;
+
+// question 9: the scratch is shorter than B
+const SHORT_SCRATCH: u32 = 9;
+
+// question 11: the tables are not sound
+const UNSOUND: u32 = 11;
 
 // Rebuilds sound tables. The first words of the scratch, one for each block, are free afterwards; later ones are unchanged.
-pub fn rebuild_sound(signatures: &[u64], links: &mut [u32], scratch: &mut [u32])
+fn rebuild_sound(signatures: &[u64], links: &mut [u32], scratch: &mut [u32])
     requires { ⌜ Sound (now signatures) (now links) ⌝ }
     requires { ⌜ length (now signatures) ≤ length (now scratch) ⌝ }
     ensures tables { λ _. ⌜ now (links .exit) ≡ rebuildLinks (now (signatures .entry)) (now (links .entry)) ⌝ }
@@ -23,4 +34,21 @@ pub fn rebuild_sound(signatures: &[u64], links: &mut [u32], scratch: &mut [u32])
     links[3] = free::free_from(blocks, first);
     split::build(signatures, links, &mut scratch[..heads], width, 1);
     free::free_rest(links, blocks, first);
+}
+
+// Makes the tree anew: 0, or the number of the first question whose answer is no, and then nothing changes.
+pub fn rebuild(signatures: &[u64], links: &mut [u32], scratch: &mut [u32]) -> u32
+    ensures { λ r. ⌜ RebuildPromise (now (signatures .entry)) (now (links .entry)) (now (scratch .entry)) r (now (links .exit)) (now (scratch .exit)) ⌝ }
+{
+    if !tables_fit(signatures, links) {
+        return UNFIT;
+    }
+    if scratch.len() < signatures.len() {
+        return SHORT_SCRATCH;
+    }
+    if audit::audit(signatures, links) == 0 {
+        rebuild_sound(signatures, links, scratch);
+        return 0;
+    }
+    UNSOUND
 }
