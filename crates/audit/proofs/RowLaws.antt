@@ -5,6 +5,7 @@ use native.Mathlib.Decide.{ℕ-discrete}
 use native.Mathlib.Numerals.{add-one}
 use native.Mathlib.Omega.{arith}
 use mathlib.Core.Path.{_≡_, refl, sym, _∙_, ap, subst}
+use mathlib.Core.Logic.{_≢_}
 use mathlib.Core.Bool.{Bool, true, false}
 use mathlib.Core.List.{List}
 use lib.Dec.{eqb, ltb}
@@ -41,6 +42,24 @@ row-whole F s x f r = go (ℕ-discrete f 0)
     go : Dec (f ≡ 0) → rowOk F s x f ≡ true
     go (yes z) = simp (lt-ltb _ _ (r .narrow), eq-eqb f 0 z, eq-eqb _ _ (r .blank z .0), eq-eqb _ _ (r .blank z .1))
     go (no nz) = let h = r .bit in let i : f ≡ 1 = omega arith in simp (lt-ltb _ _ (r .narrow), ne-eqb f 0 nz, eq-eqb _ _ i)
+
+-- the test of a row, as the code takes it
+pub row-wide : (F s x f : ℕ) → ltb s (2 ^ F) ≡ false → rowOk F s x f ≡ false
+unfolding rowOk
+row-wide F s x f e = simp e
+
+module _ (F s x f : ℕ) (narrow : ltb s (2 ^ F) ≡ true) where
+  pub row-blank : f ≡ 0 → x ≡ 0 → eqb s 0 ≡ rowOk F s x f
+  unfolding rowOk
+  row-blank z n = simp (narrow, eq-eqb _ _ z, eq-eqb _ _ n)
+
+  pub row-linked : f ≡ 0 → x ≢ 0 → rowOk F s x f ≡ false
+  unfolding rowOk
+  row-linked z n = simp (narrow, eq-eqb _ _ z, ne-eqb _ _ n)
+
+  pub row-filed : f ≢ 0 → eqb f 1 ≡ rowOk F s x f
+  unfolding rowOk
+  row-filed n = simp (narrow, ne-eqb _ _ n)
 
 module _ (S L : List ℕ) where
   -- block b's row
