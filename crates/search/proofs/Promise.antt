@@ -1,0 +1,58 @@
+-- The search keeps its promise, on all inputs: a question refuses it, or it is exact on sound tables and lists or stops on any.
+-- Assumes nothing.
+use Prim.Native.Nat.{ℕ, zero, suc, _≤_, _<_, _^_}
+use native.Mathlib.Decide.{ℕ-discrete}
+use native.Mathlib.Omega.{arith}
+use mathlib.Core.Path.{_≡_, refl, sym, _∙_, ap, subst}
+use mathlib.Core.Logic.{_⊎_, inl, inr, ⊎-elim, _≢_}
+use mathlib.Core.List.{List}
+use lib.ListN.{length}
+use Rattle.model.specs.Tree.{compared, nodesRead}
+use Rattle.model.specs.Tables.{widthOf, treeOf}
+use Rattle.model.specs.Sound.{Sound}
+use Rattle.model.specs.Questions.{asksTables, searchRefusal}
+use Rattle.model.specs.Ledger.{Report, bare, ledgerOf, matching}
+use Rattle.model.specs.Promises.{unsound, outputAfter, SearchPromise}
+use Rattle.search.specs.Search.{foundTwin}
+use Rattle.search.proofs.Asking.{refusal-most}
+use Rattle.search.proofs.Any.{lists-or-stops}
+use Rattle.search.proofs.Exact.{search-exact}
+
+module _ (sigs links : List ℕ) (q : ℕ) (m out : List ℕ) where
+  -- the number of the first no
+  abbrev pub refusal : ℕ
+  refusal = searchRefusal (asksTables sigs links) q (length m) (length out)
+
+  abbrev Keeps : Report × List ℕ × List ℕ → Type 0
+  Keeps o = SearchPromise sigs links q m out (o .0) (o .1) (o .2)
+
+  pub refused-keeps : (o : Report) → o ≡ bare refusal → refusal ≢ 0 → SearchPromise sigs links q m out o m out
+  refused-keeps o e h = record { refused = λ _. (e, refl, refl); done = λ z. absurd (h z); anyway = λ z. absurd (h z) }
+
+  found-keeps : refusal ≡ 0 → length sigs ≤ length m → Keeps (foundTwin sigs links q m out)
+  found-keeps z le = record { refused = λ h. absurd (h z); done = λ _ S. search-exact sigs links q m out S le; anyway = λ _. lists-or-stops sigs links q m out le }
+
+  -- an outcome that is the walk's, as the code's contract has it
+  pub keeps : refusal ≡ 0 → length sigs ≤ length m → (o : Report × List ℕ × List ℕ) → o ≡ foundTwin sigs links q m out → Keeps o
+  keeps z le o e = subst Keeps (sym e) (found-keeps z le)
+
+-- What the promise says of sound tables, each by itself. Here o is what the search reported.
+module _ (sigs links : List ℕ) (q : ℕ) (m out : List ℕ) (o : Report) (m′ out′ : List ℕ) (P : SearchPromise sigs links q m out o m′ out′) (S : Sound sigs links) where
+  -- sound tables never get 11
+  pub never-eleven : o .answer ≢ unsound
+  never-eleven e = go (ℕ-discrete (refusal sigs links q m out) 0)
+    where
+      go : Dec (refusal sigs links q m out ≡ 0) → ⊥
+      go (yes z) = let a : o .answer ≡ 0 = ap (λ (r : Report). r .answer) (P .done z S .0) in omega arith
+      go (no n) =
+          let a : o .answer ≡ searchRefusal (asksTables sigs links) q (length m) (length out) = ap (λ (r : Report). r .answer) (P .refused n .0) in
+          omega (arith, refusal-most (asksTables sigs links) q (length m) (length out))
+
+  module _ (z : refusal sigs links q m out ≡ 0) where
+    -- the output starts with the ledger's matching blocks, and `found` counts them
+    pub lists-matching : (out′ ≡ outputAfter (matching q (ledgerOf sigs links)) out) × (o .found ≡ length (matching q (ledgerOf sigs links)))
+    lists-matching = (P .done z S .2, ap (λ (r : Report). r .found) (P .done z S .0))
+
+    -- compares and bits read are the plain tree's
+    pub counts-of-tree : (o .compares ≡ length (compared (widthOf links) q (treeOf sigs links))) × (o .bits ≡ nodesRead (widthOf links) q (treeOf sigs links))
+    counts-of-tree = (ap (λ (r : Report). r .compares) (P .done z S .0), ap (λ (r : Report). r .bits) (P .done z S .0))

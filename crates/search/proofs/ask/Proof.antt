@@ -1,0 +1,46 @@
+-- `search::ask` meets its contract: at each return the tests that led there say which question refuses.
+-- Assumes nothing.
+use borrow.Author.Needs.{needs}
+use mathlib.Core.Path.{sym, _∙_}
+use borrow.Author.Tests.{not-true, not-false}
+use native.Mathlib.Omega.{arith}
+use Rattle.search.proofs.Asking.{no-tables, no-query, no-marks, no-output, no-none}
+use Rattle.search.proofs.ask.Statement.{statement}
+use Rattle.search.proofs.ask.Tie as tie
+
+tables-fit-requires : tie.Need-tables-fit-requires
+tables-fit-requires c κs = search needs
+
+returns : tie.Need-returns
+returns c = no-tables _ _ _ _ (sym (c .before .tables-fit .ensures .0) ∙ not-true _ (c .if1 .taken))
+
+shared-slice-read-fits : tie.Need-shared-slice-read-fits
+shared-slice-read-fits c = let f = c .before .before .tables-fit .ensures .1 (not-false _ (c .before .if1 .left)) in omega (arith, f .links-long, f .blocks-from)
+
+fits-requires : tie.Need-fits-requires
+fits-requires c κs = search needs
+
+returns-2 : tie.Need-returns-2
+returns-2 c = no-query _ _ _ _ (sym (c .before .before .before .before .tables-fit .ensures .0) ∙ not-false _ (c .before .before .before .if1 .left)) (sym (c .before .fits2 .ensures) ∙ not-true _ (c .if2 .taken))
+
+returns-3 : tie.Need-returns-3
+returns-3 c = no-marks _ _ _ _ (sym (c .before .before .before .before .before .tables-fit .ensures .0) ∙ not-false _ (c .before .before .before .before .if1 .left)) (sym (c .before .before .fits2 .ensures) ∙ not-false _ (c .before .if2 .left)) (c .if3 .taken)
+
+returns-4 : tie.Need-returns-4
+returns-4 c = no-output _ _ _ _ (sym (c .before .before .before .before .before .before .tables-fit .ensures .0) ∙ not-false _ (c .before .before .before .before .before .if1 .left)) (sym (c .before .before .before .fits2 .ensures) ∙ not-false _ (c .before .before .if2 .left)) (c .before .if3 .left) (c .if4 .taken)
+
+returns-5 : tie.Need-returns-5
+returns-5 c = no-none _ _ _ _ (sym (c .before .before .before .before .before .before .tables-fit .ensures .0) ∙ not-false _ (c .before .before .before .before .before .if1 .left)) (sym (c .before .before .before .fits2 .ensures) ∙ not-false _ (c .before .before .if2 .left)) (c .before .if3 .left) (c .if4 .left)
+
+pub ask-spec : {M : Type 1} → statement M
+ask-spec =
+    tie.close
+    (tie.spec
+    tables-fit-requires
+    returns
+    shared-slice-read-fits
+    fits-requires
+    returns-2
+    returns-3
+    returns-4
+    returns-5)

@@ -1,0 +1,116 @@
+-- `search::find` meets its contract: each return is a case of `foundTwin`, and the walk leaves no more than it was lent.
+-- Assumes nothing.
+use borrow.Author.Needs.{needs}
+use mathlib.Core.Path.{sym, _∙_}
+use native.Mathlib.Omega.{arith}
+use Rattle.search.proofs.Returns.{find-empty, find-unfit, find-list, walk-few, walk-found, used-read, report-same}
+use Rattle.search.proofs.find.Statement.{statement}
+use Rattle.search.proofs.find.Tie as tie
+
+clear-marks-requires : tie.Need-clear-marks-requires
+clear-marks-requires c κs = search needs
+
+shared-slice-read-root : tie.Need-shared-slice-read-root
+shared-slice-read-root c = omega (arith, c .before .before .before .before .before .before .before .before .before .pre .0 .long, c .before .before .before .before .before .before .before .before .before .pre .1 .0)
+
+no-list-requires : tie.Need-no-list-requires
+no-list-requires c κs = search needs
+
+same-length : tie.Need-same-length
+same-length c = search needs
+
+returns : tie.Need-returns
+returns c = find-empty _ _ _ _ _ _ (c .before .before .before .before .before .clear-marks .ensures) _ (c .no-list .ensures) (c .before .if1 .taken)
+
+shared-slice-read-walk : tie.Need-shared-slice-read-walk
+shared-slice-read-walk c = omega (arith, c .before .before .before .before .before .before .before .before .before .before .before .before .pre .0 .long, c .before .before .before .before .before .before .before .before .before .before .before .before .pre .1 .0)
+
+lend-requires : tie.Need-lend-requires
+lend-requires c κs = search needs
+
+walk-requires : tie.Need-walk-requires
+walk-requires c κs = search needs
+
+nodes-in-requires : tie.Need-nodes-in-requires
+nodes-in-requires c κs = search needs
+
+no-list-requires-2 : tie.Need-no-list-requires-2
+no-list-requires-2 c κs = search needs
+
+same-length-2 : tie.Need-same-length-2
+same-length-2 c = search needs
+
+returns-2 : tie.Need-returns-2
+returns-2 c = find-unfit _ _ _ _ _ _ (c .before .before .before .before .before .before .before .before .before .before .before .before .before .clear-marks .ensures) _ _ (c .before .before .before .before .before .before .lend .ensures) _ _ (c .before .before .before .before .before .walk .ensures) (c .no-list2 .ensures) (c .before .before .before .before .before .before .before .before .before .if1 .left) (sym (c .before .before .nodes-in .ensures) ∙ c .before .if2 .taken)
+
+blocks-in-requires : tie.Need-blocks-in-requires
+blocks-in-requires c κs = search needs
+
+used-requires : tie.Need-used-requires
+used-requires c κs =
+    let f = walk-found (c .before .before .before .before .before .before .before .before .before .before .before .before .before .before .before .before .before .before .before .args .signatures .now) (c .before .before .before .before .before .before .before .before .before .before .before .before .before .before .before .before .before .before .before .args .links .now) (c .before .before .before .before .before .before .before .before .before .before .before .before .before .before .before .before .before .before .before .args .query) (c .before .before .before .before .before .before .before .before .before .before .before .before .before .before .before .before .before .before .before .args .marks .now) _ (c .before .before .before .before .before .before .before .before .before .before .before .before .before .clear-marks .ensures) _ (c .before .before .before .before .before .before .lend .ensures) _ _ (c .before .before .before .before .before .walk .ensures) (c .before .before .before .before .before .before .before .before .before .before .before .before .before .before .before .before .before .before .before .pre .0 .room) (λ z. c .before .if2 .left (c .before .before .nodes-in .ensures ∙ z)) in
+    omega (arith, f .0, c .blocks-in .ensures, c .before .before .before .before .before .before .before .before .before .before .before .before .before .before .before .before .before .before .before .pre .0 .few)
+
+cast-list-marked : tie.Need-cast-list-marked
+cast-list-marked c = search needs
+
+list-marked-requires : tie.Need-list-marked-requires
+list-marked-requires c κs =
+    let f = walk-found (c .before .before .before .before .before .before .before .before .before .before .before .before .before .before .before .before .before .before .before .before .before .before .args .signatures .now) (c .before .before .before .before .before .before .before .before .before .before .before .before .before .before .before .before .before .before .before .before .before .before .args .links .now) (c .before .before .before .before .before .before .before .before .before .before .before .before .before .before .before .before .before .before .before .before .before .before .args .query) (c .before .before .before .before .before .before .before .before .before .before .before .before .before .before .before .before .before .before .before .before .before .before .args .marks .now) _ (c .before .before .before .before .before .before .before .before .before .before .before .before .before .before .before .before .clear-marks .ensures) _ (c .before .before .before .before .before .before .before .before .before .lend .ensures) _ _ (c .before .before .before .before .before .before .before .before .walk .ensures) (c .before .before .before .before .before .before .before .before .before .before .before .before .before .before .before .before .before .before .before .before .before .before .pre .0 .room) (λ z. c .before .before .before .before .if2 .left (c .before .before .before .before .before .nodes-in .ensures ∙ z)) in
+    let e = used-read _ _ _ _ (c .before .before .used .ensures) (c .before .before .before .blocks-in .ensures) in
+    (search needs, search needs, omega (arith, e, c .before .before .before .before .before .before .before .before .before .before .before .before .before .before .before .before .before .before .before .before .before .before .pre .1 .1), e ∙ f .1)
+
+compares-in-requires : tie.Need-compares-in-requires
+compares-in-requires c κs = search needs
+
+used-requires-2 : tie.Need-used-requires-2
+used-requires-2 c κs =
+    let f = walk-few (c .before .before .before .before .before .before .before .before .before .before .before .before .before .before .before .before .before .before .before .before .before .before .before .before .before .before .args .signatures .now) (c .before .before .before .before .before .before .before .before .before .before .before .before .before .before .before .before .before .before .before .before .before .before .before .before .before .before .args .links .now) (c .before .before .before .before .before .before .before .before .before .before .before .before .before .before .before .before .before .before .before .before .before .before .before .before .before .before .args .query) (c .before .before .before .before .before .before .before .before .before .before .before .before .before .before .before .before .before .before .before .before .before .before .before .before .before .before .args .marks .now) _ (c .before .before .before .before .before .before .before .before .before .before .before .before .before .before .before .before .before .before .before .before .clear-marks .ensures) _ (c .before .before .before .before .before .before .before .before .before .before .before .before .before .lend .ensures) _ _ (c .before .before .before .before .before .before .before .before .before .before .before .before .walk .ensures) (c .before .before .before .before .before .before .before .before .before .before .before .before .before .before .before .before .before .before .before .before .before .before .before .before .before .before .pre .0 .room) in
+    omega (arith, f .1, c .compares-in .ensures, c .before .before .before .before .before .before .before .before .before .before .before .before .before .before .before .before .before .before .before .before .before .before .before .before .before .before .pre .0 .few)
+
+nodes-in-requires-2 : tie.Need-nodes-in-requires-2
+nodes-in-requires-2 c κs = search needs
+
+used-requires-3 : tie.Need-used-requires-3
+used-requires-3 c κs =
+    let f = walk-few (c .before .before .before .before .before .before .before .before .before .before .before .before .before .before .before .before .before .before .before .before .before .before .before .before .before .before .before .before .args .signatures .now) (c .before .before .before .before .before .before .before .before .before .before .before .before .before .before .before .before .before .before .before .before .before .before .before .before .before .before .before .before .args .links .now) (c .before .before .before .before .before .before .before .before .before .before .before .before .before .before .before .before .before .before .before .before .before .before .before .before .before .before .before .before .args .query) (c .before .before .before .before .before .before .before .before .before .before .before .before .before .before .before .before .before .before .before .before .before .before .before .before .before .before .before .before .args .marks .now) _ (c .before .before .before .before .before .before .before .before .before .before .before .before .before .before .before .before .before .before .before .before .before .before .clear-marks .ensures) _ (c .before .before .before .before .before .before .before .before .before .before .before .before .before .before .before .lend .ensures) _ _ (c .before .before .before .before .before .before .before .before .before .before .before .before .before .before .walk .ensures) (c .before .before .before .before .before .before .before .before .before .before .before .before .before .before .before .before .before .before .before .before .before .before .before .before .before .before .before .before .pre .0 .room) in
+    omega (arith, f .0, c .nodes-in2 .ensures, c .before .before .before .before .before .before .before .before .before .before .before .before .before .before .before .before .before .before .before .before .before .before .before .before .before .before .before .before .pre .0 .few)
+
+same-length-3 : tie.Need-same-length-3
+same-length-3 c = search needs
+
+same-length-4 : tie.Need-same-length-4
+same-length-4 c = search needs
+
+returns-3 : tie.Need-returns-3
+returns-3 c =
+    let r = report-same _ _ _ _ _ _ (used-read _ _ _ _ (c .before .before .before .before .before .before .before .before .before .used .ensures) (c .before .before .before .before .before .before .before .before .before .before .blocks-in .ensures)) (used-read _ _ _ _ (c .before .before .used2 .ensures) (c .before .before .before .compares-in .ensures)) (used-read _ _ _ _ (c .used3 .ensures) (c .before .nodes-in2 .ensures)) in
+    find-list _ _ _ _ _ _ (c .before .before .before .before .before .before .before .before .before .before .before .before .before .before .before .before .before .before .before .before .before .before .before .clear-marks .ensures) _ _ (c .before .before .before .before .before .before .before .before .before .before .before .before .before .before .before .before .lend .ensures) _ _ (c .before .before .before .before .before .before .before .before .before .before .before .before .before .before .before .walk .ensures) (c .before .before .before .before .before .before .before .before .before .before .before .before .before .before .before .before .before .before .before .if1 .left) (λ z. c .before .before .before .before .before .before .before .before .before .before .before .if2 .left (c .before .before .before .before .before .before .before .before .before .before .before .before .nodes-in .ensures ∙ z)) r _ (c .before .before .before .before .before .before .list-marked .ensures)
+
+pub find-spec : {M : Type 1} → statement M
+find-spec =
+    tie.close
+    (tie.spec
+    clear-marks-requires
+    shared-slice-read-root
+    no-list-requires
+    same-length
+    returns
+    shared-slice-read-walk
+    lend-requires
+    walk-requires
+    nodes-in-requires
+    no-list-requires-2
+    same-length-2
+    returns-2
+    blocks-in-requires
+    used-requires
+    cast-list-marked
+    list-marked-requires
+    compares-in-requires
+    used-requires-2
+    nodes-in-requires-2
+    used-requires-3
+    same-length-3
+    same-length-4
+    returns-3)

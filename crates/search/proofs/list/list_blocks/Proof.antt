@@ -1,0 +1,87 @@
+-- `search::list::list_blocks` meets its contract. The invariant: the output lists the blocks passed.
+-- Assumes nothing.
+use borrow.Author.Needs.{needs}
+use mathlib.Core.Path.{_≡_, refl, sym, _∙_}
+use Prim.Native.Nat.{ℕ, _+_, _-_, _≤_, _<_}
+use lib.ListN.{length}
+use native.Mathlib.Omega.{arith}
+use Rattle.search.specs.Search.{Listing}
+use Rattle.search.proofs.Listings.{listing-none, listing-yes, listing-no, listing-full}
+use Rattle.search.proofs.list.list_blocks.Statement.{statement}
+use Rattle.search.proofs.list.list_blocks.Tie as tie
+
+abbrev Inv-loop : tie.InvT-loop
+Inv-loop marks output₀ from to listed found n₀ block₀ output n block = (from ≤ block) × (block ≤ to) × Listing marks found from listed output₀ block n output
+
+abbrev μ-loop : tie.MeasureT-loop
+μ-loop marks output₀ from to listed found n₀ block₀ output n block = to - block
+
+loop-holds : tie.Need-loop-holds Inv-loop μ-loop
+loop-holds c = (search needs, search needs, listing-none _ _ _ _ _)
+
+same-length : tie.Need-same-length Inv-loop μ-loop
+same-length c = c .before .before .loop .inv .2 .long
+
+returns : tie.Need-returns Inv-loop μ-loop
+returns c = listing-full _ _ _ _ _ _ _ _ _ (c .before .before .loop .inv .2) (c .before .before .loop .inv .1) (c .if1 .taken)
+
+add-block : tie.Need-add-block Inv-loop μ-loop
+add-block c = search needs
+
+cast-output : tie.Need-cast-output Inv-loop μ-loop
+cast-output c = search needs
+
+mul-output : tie.Need-mul-output Inv-loop μ-loop
+mul-output c = search needs
+
+slice-write-output : tie.Need-slice-write-output Inv-loop μ-loop
+slice-write-output c = omega (arith, c .if1 .left, c .before .before .loop .inv .2 .long, c .before .before .before .before .before .pre)
+
+is-marked-requires : tie.Need-is-marked-requires Inv-loop μ-loop
+is-marked-requires c κs = search needs
+
+add-n : tie.Need-add-n Inv-loop μ-loop
+add-n c = search needs
+
+loop-less : tie.Need-loop-less Inv-loop μ-loop
+loop-less c = search needs
+
+loop-again : tie.Need-loop-again Inv-loop μ-loop
+loop-again c = (omega arith, omega arith, listing-yes _ _ _ _ _ _ _ _ (c .before .before .before .before .loop .inv .2) (omega (arith, c .before .before .if1 .left)) (omega (arith, c .before .before .if1 .left, c .before .before .before .before .loop .inv .2 .long, c .before .before .before .before .before .before .before .pre)) (sym (c .before .is-marked .ensures) ∙ c .if2 .taken))
+
+loop-less-2 : tie.Need-loop-less-2 Inv-loop μ-loop
+loop-less-2 c = search needs
+
+loop-again-2 : tie.Need-loop-again-2 Inv-loop μ-loop
+loop-again-2 c = (omega arith, omega arith, listing-no _ _ _ _ _ _ _ _ (c .before .before .before .before .loop .inv .2) (omega (arith, c .before .before .if1 .left)) (omega (arith, c .before .before .if1 .left, c .before .before .before .before .loop .inv .2 .long, c .before .before .before .before .before .before .before .pre)) (sym (c .before .is-marked .ensures) ∙ c .if2 .left))
+
+same-length-2 : tie.Need-same-length-2 Inv-loop μ-loop
+same-length-2 c = c .before .loop .inv .2 .long
+
+returns-2 : tie.Need-returns-2 Inv-loop μ-loop
+returns-2 c =
+    let l = c .before .loop in
+    let e : l .block ≡ c .before .before .before .before .args .to = omega arith in
+    rw (← e) (l .inv .2)
+
+pub list-blocks-spec : {M : Type 1} → statement M
+list-blocks-spec =
+    tie.close
+    (tie.spec
+    Inv-loop
+    μ-loop
+    loop-holds
+    same-length
+    returns
+    add-block
+    cast-output
+    mul-output
+    slice-write-output
+    is-marked-requires
+    add-n
+    loop-less
+    loop-again
+    loop-less-2
+    loop-again-2
+    same-length-2
+    returns-2)

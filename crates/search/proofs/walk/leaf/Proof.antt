@@ -1,0 +1,55 @@
+-- `search::walk::leaf` meets its contract: at each return the tests that led there say which case of `leafTwin` holds.
+-- Assumes nothing.
+use borrow.Author.Needs.{needs}
+use mathlib.Core.Path.{sym, _∙_}
+use borrow.Author.Tests.{not-true, not-false}
+use native.Mathlib.Omega.{arith}
+use Rattle.search.proofs.Steps.{leaf-none, leaf-spent}
+use Rattle.search.proofs.Returns.{covers-read, leaf-passes, leaf-marks}
+use Rattle.search.proofs.walk.leaf.Statement.{statement}
+use Rattle.search.proofs.walk.leaf.Tie as tie
+
+returns : tie.Need-returns
+returns c = sym (leaf-none _ _ _ _ _ _ (c .if1 .taken))
+
+compares-in-requires : tie.Need-compares-in-requires
+compares-in-requires c κs = search needs
+
+returns-2 : tie.Need-returns-2
+returns-2 c = sym (leaf-spent _ _ _ _ _ _ (c .before .before .if1 .left) (sym (c .before .compares-in .ensures) ∙ c .if2 .taken))
+
+take-compare-requires : tie.Need-take-compare-requires
+take-compare-requires c κs = omega (arith, c .if2 .left, c .before .compares-in .ensures)
+
+signature-of-requires : tie.Need-signature-of-requires
+signature-of-requires c κs = omega (arith, c .before .before .before .if1 .left, c .before .before .before .before .before .before .before .pre .1)
+
+covers-requires : tie.Need-covers-requires
+covers-requires c κs = search needs
+
+returns-3 : tie.Need-returns-3
+returns-3 c = leaf-passes _ _ _ _ _ _ (c .before .before .before .before .before .before .if1 .left) (omega (arith, c .before .before .before .before .if2 .left, c .before .before .before .before .before .compares-in .ensures)) _ (c .before .before .before .take-compare .ensures) (sym (covers-read _ _ _ _ _ (c .before .before .before .before .before .before .before .before .before .before .pre .0 .low) (c .before .covers .ensures .0) (c .before .before .signature-of .ensures)) ∙ not-true _ (c .if3 .taken))
+
+mark-chain-requires : tie.Need-mark-chain-requires
+mark-chain-requires c κs = search needs
+
+same-length : tie.Need-same-length
+same-length c = search needs
+
+returns-4 : tie.Need-returns-4
+returns-4 c = leaf-marks _ _ _ _ _ _ (c .before .before .before .before .before .before .before .before .before .before .if1 .left) (omega (arith, c .before .before .before .before .before .before .before .before .if2 .left, c .before .before .before .before .before .before .before .before .before .compares-in .ensures)) _ (c .before .before .before .before .before .before .before .take-compare .ensures) (sym (covers-read _ _ _ _ _ (c .before .before .before .before .before .before .before .before .before .before .before .before .before .before .pre .0 .low) (c .before .before .before .before .before .covers .ensures .0) (c .before .before .before .before .before .before .signature-of .ensures)) ∙ not-false _ (c .before .before .before .before .if3 .left)) _ (c .before .before .mark-chain .ensures)
+
+pub leaf-spec : {M : Type 1} → statement M
+leaf-spec =
+    tie.close
+    (tie.spec
+    returns
+    compares-in-requires
+    returns-2
+    take-compare-requires
+    signature-of-requires
+    covers-requires
+    returns-3
+    mark-chain-requires
+    same-length
+    returns-4)

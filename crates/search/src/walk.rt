@@ -1,0 +1,122 @@
+// The walk of a search: from a reference down, right only where the query has a 1. It is safe on any tables whose lengths fit, and ends
+// on them: untested positions and nodes left fall at each call, blocks left at each block of a chain.
+ghost use mathlib.Core.Path.{_≡_};
+ghost use Prim.Native.Nat.{_≤_};
+ghost use lib.ListN.{length};
+ghost use Rattle.search.specs.Search.{budgetOf, Sized, mayMark, chainTwin, leafTwin, walkTwin};
+use crate::budget;
+use crate::marking;
+
+// May the block be marked? It is 1 to B, filed, not yet marked, and its signature covers the query.
+pub fn may_mark(signatures: &[u64], links: &[u32], marks: &[u8], query: u64, block: usize) -> bool
+    requires { ⌜ Sized (now signatures) (now links) (now marks) query ⌝ }
+    ensures { λ r. ⌜ r ≡ mayMark (now (signatures .entry)) (now (links .entry)) query block (now (marks .entry)) ⌝ }
+{
+    if block == 0 {
+        return false;
+    }
+    if signatures.len() < block {
+        return false;
+    }
+    if tables::rows::filed_of(links, block) == 0 {
+        return false;
+    }
+    if marking::is_marked(marks, block) {
+        return false;
+    }
+    signature::covers(tables::rows::signature_of(signatures, block), query)
+}
+
+// Marks the blocks of the chain from its head on.
+pub fn mark_chain(
+    signatures: &[u64],
+    links: &[u32],
+    marks: &mut [u8],
+    query: u64,
+    head: u32,
+    left: u64,
+) -> u64
+    requires { ⌜ Sized (now signatures) (now links) (now marks) query ⌝ }
+    ensures { λ r. ⌜ (budgetOf r, now (marks .exit)) ≡ chainTwin (now (signatures .entry)) (now (links .entry)) query (budgetOf left .nodes) (budgetOf left .compares) (budgetOf left .blocks) head (now (marks .entry)) ⌝ }
+{
+    let mut block = head as usize;
+    let mut rest = left;
+    while block != 0 {
+        if budget::blocks_in(rest) == 0 {
+            return budget::UNFIT;
+        }
+        if !may_mark(signatures, links, marks, query, block) {
+            return budget::UNFIT;
+        }
+        marking::set_mark(marks, block);
+        rest = budget::take_block(rest);
+        block = tables::wide(tables::rows::next_of(links, block));
+    }
+    rest
+}
+
+// A leaf is one compare; its chain is marked where its signature covers the query.
+pub fn leaf(
+    signatures: &[u64],
+    links: &[u32],
+    marks: &mut [u8],
+    query: u64,
+    head: u32,
+    left: u64,
+) -> u64
+    requires { ⌜ Sized (now signatures) (now links) (now marks) query ⌝ }
+    requires { ⌜ head ≤ length (now signatures) ⌝ }
+    ensures { λ r. ⌜ (budgetOf r, now (marks .exit)) ≡ leafTwin (now (signatures .entry)) (now (links .entry)) query head (budgetOf left) (now (marks .entry)) ⌝ }
+{
+    if head == 0 {
+        return budget::UNFIT;
+    }
+    if budget::compares_in(left) == 0 {
+        return budget::UNFIT;
+    }
+    let rest = budget::take_compare(left);
+    let signature = tables::rows::signature_of(signatures, head as usize);
+    if !signature::covers(signature, query) {
+        return rest;
+    }
+    mark_chain(signatures, links, marks, query, head, rest)
+}
+
+// The subtree at a reference: a leaf, or a node and the sides that the query visits.
+pub fn walk(
+    signatures: &[u64],
+    links: &[u32],
+    marks: &mut [u8],
+    query: u64,
+    reference: u32,
+    untested: u32,
+    left: u64,
+) -> u64
+    requires { ⌜ Sized (now signatures) (now links) (now marks) query ⌝ }
+    ensures { λ r. ⌜ (budgetOf r, now (marks .exit)) ≡ walkTwin untested (now (signatures .entry)) (now (links .entry)) query reference (budgetOf left) (now (marks .entry)) ⌝ }
+{
+    let blocks = signatures.len();
+    let at = reference as usize;
+    if at <= blocks {
+        return leaf(signatures, links, marks, query, reference, left);
+    }
+    if untested == 0 {
+        return budget::UNFIT;
+    }
+    if budget::nodes_in(left) <= 1 {
+        return budget::UNFIT;
+    }
+    let node = at - blocks;
+    let side = tables::walk::edge(links, blocks, links[0], query, node);
+    if 1 < side {
+        return budget::UNFIT;
+    }
+    let below = budget::take_node(left);
+    let right = tables::nodes::side_of(links, blocks, node, 1);
+    if side == 1 {
+        return walk(signatures, links, marks, query, right, untested - 1, below);
+    }
+    let first = tables::nodes::side_of(links, blocks, node, 0);
+    let rest = walk(signatures, links, marks, query, first, untested - 1, below);
+    walk(signatures, links, marks, query, right, untested - 1, rest)
+}
