@@ -1,21 +1,24 @@
 -- Cleared tables are sound, their plain tree is nothing and their ledger empty: every word but 0, 1, 3 and the left words of the nodes is 0.
 -- Assumes nothing.
 use Prim.Native.Nat.{ℕ, zero, suc, _+_, _-_, _*_, _^_, _≤_, _<_}
-use native.Mathlib.Decide.{ℕ-discrete, decLt}
+use native.Mathlib.Decide.{decLt}
 use native.Mathlib.Omega.{arith}
-use mathlib.Core.Path.{_≡_, refl, sym, _∙_, ap, subst}
+use mathlib.Core.Path.{_≡_, refl, sym, _∙_, ap, ap₂, subst}
 use mathlib.Core.Logic.{inr}
-use mathlib.Core.List.{List, _∷_, _++_, List·Memᴰ, List·Memᴰ·head, List·Memᴰ·tail, List·Memᴰ·not-nil}
+use mathlib.Core.List.{List, _∷_, _++_, List·Memᴰ·not-nil}
 use lib.ListN.{length, getD, replicate, length-append, length-replicate, getD-replicate, List·getD-append}
 use lib.Seq.{getD-append-add}
 use lib.Pow.{pow-pos}
-use borrow.Author.Tests.{lt-ltb, le-ltb, eq-eqb}
+use borrow.Author.Tests.{lt-ltb, le-ltb}
 use Rattle.model.specs.Tree.{nothing}
-use Rattle.model.specs.Tables.{word, nextAt, filedAt, positionAt, leftAt, rightAt, signatureOf, widthOf, rootOf, treeOf, treeFrom}
+use Rattle.model.specs.Tables.{word, nextAt, filedAt, positionAt, leftAt, rightAt, signatureOf, widthOf, rootOf, treeOf}
 use Rattle.model.specs.Sound.{none, FreeChain, filedUpTo, FitsAt, SoundAt, Sound}
 use Rattle.model.specs.Clear.{freeFrom, freeNodes, clearLinks, clearSignatures}
 use Rattle.model.specs.Basics.{upFrom}
-use Rattle.model.specs.Ledger.{Entry, unfiled, emptyLedger, entryIn, entriesFrom, ledgerOf}
+use Rattle.model.proofs.Keep.{upFrom-has}
+use Rattle.tables.proofs.Trees.{treeFrom-none}
+use Rattle.tables.proofs.Entries.{entry-unfiled}
+use Rattle.model.specs.Ledger.{Entry, unfiled, emptyLedger, entriesFrom, ledgerOf}
 
 -- the words of the j-th of n free rows that begin with node i
 record FreeRow (n i j : ℕ) : Type 0 where
@@ -48,15 +51,6 @@ free-length zero i = refl
 free-length (suc zero) i = refl
 free-length (suc (suc n)) i = omega (arith, free-length (suc n) (suc i))
 
-upFrom-has : (n i j : ℕ) → i ≤ j → j < i + n → List·Memᴰ j (upFrom n i)
-unfolding upFrom
-upFrom-has zero i j h h′ = absurd (omega arith)
-upFrom-has (suc n) i j h h′ = go (ℕ-discrete j i) (λ x. upFrom-has n (suc i) j x (omega arith))
-  where
-    go : Dec (j ≡ i) → (suc i ≤ j → List·Memᴰ j (upFrom n (suc i))) → List·Memᴰ j (i ∷ upFrom n (suc i))
-    go (yes e) f = List·Memᴰ·head e
-    go (no d) f = List·Memᴰ·tail (f (omega arith))
-
 free-in : (B i : ℕ) → i < B → freeFrom B i ≡ i
 unfolding freeFrom
 free-in B i h = rw (lt-ltb i B h, freeFrom)
@@ -65,19 +59,12 @@ free-out : (B i : ℕ) → B ≤ i → freeFrom B i ≡ 0
 unfolding freeFrom
 free-out B i h = rw (le-ltb i B h, freeFrom)
 
--- reference 0 leads to nothing
-no-tree : (B : ℕ) (sigs links : List ℕ) (n r : ℕ) → r ≡ 0 → treeFrom B sigs links n r ≡ nothing
-unfolding treeFrom
-no-tree B sigs links zero r e = rw (eq-eqb r 0 e, treeFrom)
-no-tree B sigs links (suc n) r e = rw (eq-eqb r 0 e, treeFrom)
-
 -- unfiled rows have no entry
 no-entries : (sigs links : List ℕ) (n b : ℕ) → ((c : ℕ) → b ≤ c → c < b + n → word links (filedAt c) ≡ 0) → entriesFrom sigs links n b ≡ replicate n unfiled
-unfolding entriesFrom entryIn
+unfolding entriesFrom
 no-entries sigs links zero b z = refl
 no-entries sigs links (suc n) b z =
-    let ih = no-entries sigs links n (suc b) (λ c h k. z c (omega arith) (omega arith)) in
-    rw (eq-eqb (word links (filedAt b)) 0 (z b (omega arith) (omega arith)), entriesFrom, entryIn) (ap (λ (es : List Entry). unfiled ∷ es) ih)
+    ap₂ (λ (e : Entry) (es : List Entry). e ∷ es) (entry-unfiled sigs links b (z b (omega arith) (omega arith))) (no-entries sigs links n (suc b) (λ c h k. z c (omega arith) (omega arith)))
 
 module _ (B F : ℕ) (b1 : 1 ≤ B) (b2 : B ≤ 65535) (f1 : 1 ≤ F) (f2 : F ≤ 64) where
   abbrev L : List ℕ
@@ -168,7 +155,7 @@ module _ (B F : ℕ) (b1 : 1 ≤ B) (b2 : B ≤ 65535) (f1 : 1 ≤ F) (f2 : F �
 
   pub clear-tree : treeOf (clearSignatures B) L ≡ nothing
   unfolding clearLinks
-  clear-tree = no-tree (length (clearSignatures B)) (clearSignatures B) L (widthOf L) (rootOf L) (refl)
+  clear-tree = treeFrom-none (length (clearSignatures B)) (clearSignatures B) L (widthOf L) (rootOf L) (refl)
 
   pub clear-ledger : ledgerOf (clearSignatures B) L ≡ emptyLedger B F
   clear-ledger = rw (fits-clear .sigs-long, fits-clear .width-word) (ap (λ (es : List Entry). record { width = F; entries = es }) (no-entries (clearSignatures B) L B 1 (λ c h k. unfiled-row c h (omega arith))))

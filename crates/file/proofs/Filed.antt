@@ -13,16 +13,21 @@ use Rattle.model.specs.Tree.{insert}
 use Rattle.model.specs.Tables.{rootAt, widthOf, rootOf, filedOf, signatureOf, treeOf}
 use Rattle.model.specs.Sound.{Shape, Rooted, none, some, HoldsRoot, Sound}
 use Rattle.model.specs.File.{fileSignatures, fileLinks}
-use Rattle.model.specs.Questions.{file}
+use Rattle.model.specs.Questions.{asksTables, fileRefusal, file}
 use Rattle.model.specs.Ledger.{pair, ledgerOf, entered}
 use Rattle.tables.proofs.Walks.{spot-leaf}
 use Rattle.tables.proofs.After.{signature-other}
 use Rattle.tables.proofs.Entries.{entry-pair, ledger-set}
 use Rattle.file.proofs.Good.{Fileable, Good, own-signature}
+use Rattle.file.proofs.Asked.{passed}
 use Rattle.file.proofs.First.{first-good}
 use Rattle.file.proofs.Joins.{join-good}
 use Rattle.file.proofs.Splits.{split-good}
 use Rattle.file.proofs.Cases.{links-first, links-join, links-split, at-leaf, AtLeaf, spare}
+
+-- what no question refuses can be filed
+pub fileable : {sigs links : List ℕ} (S : Sound sigs links) (b s : ℕ) → fileRefusal (asksTables sigs links) b s ≡ 0 → Fileable S b s
+fileable {sigs} {links} S b s z = let p = passed sigs links b s z in record { from = p .from; to = p .to; unfiled = p .unfiled; small = p .small }
 
 module _ {sigs links : List ℕ} (S : Sound sigs links) (b s : ℕ) (Q : Fileable S b s) where
   abbrev B : ℕ

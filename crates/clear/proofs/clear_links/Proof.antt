@@ -16,7 +16,11 @@ zero-links-requires : tie.Need-zero-links-requires
 zero-links-requires c κs = omega arith
 
 chain-nodes-requires : tie.Need-chain-nodes-requires
-chain-nodes-requires c κs = let p = c .before .before .before .before .before .before .before .pre in (p .0, p .1, c .before .before .before .zero-links .ensures ∙ ap (λ (n : ℕ). replicate n 0) (p .2))
+chain-nodes-requires c κs =
+    let start = c .before .before .before .before .before .before .before in
+    let at-zero-links = c .before .before .before .zero-links in
+    let p = start .pre in
+    (p .0, p .1, at-zero-links .ensures ∙ ap (λ (n : ℕ). replicate n 0) (p .2))
 
 slice-write-links : tie.Need-slice-write-links
 slice-write-links c = omega (arith, c .before .before .chain-nodes .ensures .1)

@@ -59,8 +59,11 @@ same-length : tie.Need-same-length Inv-loop μ-loop
 same-length c = search needs
 
 returns : tie.Need-returns Inv-loop μ-loop
-returns c = let l = c .before .loop in
-    (l .inv .3 ∙ chained-done (c .before .before .args .blocks) (l .i) (c .before .before .pre .0) (l .inv .0) (l .inv .1) (c .loop-test .left), l .inv .2 ∙ ap length (c .before .before .pre .2) ∙ length-replicate {A = ℕ} (5 * c .before .before .args .blocks + 2) 0)
+returns c =
+    let start = c .before .before in
+    let at-loop = c .before .loop in
+    let l = at-loop in
+    (l .inv .3 ∙ chained-done (start .args .blocks) (l .i) (start .pre .0) (l .inv .0) (l .inv .1) (c .loop-test .left), l .inv .2 ∙ ap length (start .pre .2) ∙ length-replicate {A = ℕ} (5 * start .args .blocks + 2) 0)
 
 pub chain-nodes-spec : {M : Type 1} → statement M
 chain-nodes-spec =

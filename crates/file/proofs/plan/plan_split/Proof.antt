@@ -34,15 +34,22 @@ first-difference-requires c κs =
 
 bit-requires : tie.Need-bit-requires
 bit-requires c κs =
-    let p = c .before .before .before .before .before .before .before .pre .0 in
-    let d = difference-in _ _ _ (p .2) (ltb-true _ _ (sym (c .before .before .fits2 .ensures) ∙ not-false _ (c .before .if2 .left))) (p .3) _ (c .first-difference .ensures) in
+    let start = c .before .before .before .before .before .before .before in
+    let at-fits2 = c .before .before .fits2 in
+    let at-if2 = c .before .if2 in
+    let p = start .pre .0 in
+    let d = difference-in _ _ _ (p .2) (ltb-true _ _ (sym (at-fits2 .ensures) ∙ not-false _ (at-if2 .left))) (p .3) _ (c .first-difference .ensures) in
     (d .0, d .1, p .1)
 
 returns-3 : tie.Need-returns-3
 returns-3 c =
-    let r = block-of _ _ (sym (c .before .before .before .before .before .is-block .ensures) ∙ not-false _ (c .before .before .before .before .if1 .left)) in
-    let q = c .before .before .before .before .before .before .before .before .pre .1 in
-    (a-split (c .before .before .before .before .before .before .before .before .args .blocks) (c .before .before .before .before .before .before .before .before .args .width) (c .before .before .before .before .before .before .before .before .args .links .now) (c .before .before .before .before .before .before .before .before .args .signature) (c .before .before .before .before .before .before .before .before .args .link) (c .before .before .before .before .before .before .before .before .args .leaf) (c .before .before .before .before .before .before .before .before .args .other) _ _ (c .before .first-difference .ensures) (c .bit .ensures .0), (q .3, q .2, r .0, omega arith, c .bit .ensures .1))
+    let start = c .before .before .before .before .before .before .before .before in
+    let at-is-block = c .before .before .before .before .before .is-block in
+    let at-if1 = c .before .before .before .before .if1 in
+    let at-first-difference = c .before .first-difference in
+    let r = block-of _ _ (sym (at-is-block .ensures) ∙ not-false _ (at-if1 .left)) in
+    let q = start .pre .1 in
+    (a-split (start .args .blocks) (start .args .width) (start .args .links .now) (start .args .signature) (start .args .link) (start .args .leaf) (start .args .other) _ _ (at-first-difference .ensures) (c .bit .ensures .0), (q .3, q .2, r .0, omega arith, c .bit .ensures .1))
 
 pub plan-split-spec : {M : Type 1} → statement M
 plan-split-spec =

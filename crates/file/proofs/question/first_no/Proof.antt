@@ -13,34 +13,81 @@ tables-fit-requires : tie.Need-tables-fit-requires
 tables-fit-requires c κs = search needs
 
 returns : tie.Need-returns
-returns c = let a = c .before .before .before .before .args in refuses-4 (a .signatures .now) (a .links .now) (a .block) (a .signature) (sym (c .before .tables-fit .ensures .0) ∙ not-true _ (c .if1 .taken))
+returns c =
+    let start = c .before .before .before .before in
+    let at-tables-fit = c .before .tables-fit in
+    let a = start .args in
+    refuses-4 (a .signatures .now) (a .links .now) (a .block) (a .signature) (sym (at-tables-fit .ensures .0) ∙ not-true _ (c .if1 .taken))
 
 is-block-requires : tie.Need-is-block-requires
 is-block-requires c κs = search needs
 
 returns-2 : tie.Need-returns-2
-returns-2 c = let a = c .before .before .before .before .before .before .args in refuses-5 (a .signatures .now) (a .links .now) (a .block) (a .signature) (sym (c .before .before .before .tables-fit .ensures .0) ∙ not-false _ (c .before .before .if1 .left)) (sym (c .before .is-block .ensures) ∙ not-true _ (c .if2 .taken))
+returns-2 c =
+    let start = c .before .before .before .before .before .before in
+    let at-tables-fit = c .before .before .before .tables-fit in
+    let at-if1 = c .before .before .if1 in
+    let at-is-block = c .before .is-block in
+    let a = start .args in
+    refuses-5 (a .signatures .now) (a .links .now) (a .block) (a .signature) (sym (at-tables-fit .ensures .0) ∙ not-false _ (at-if1 .left)) (sym (at-is-block .ensures) ∙ not-true _ (c .if2 .taken))
 
 shared-slice-read-fits : tie.Need-shared-slice-read-fits
-shared-slice-read-fits c = let f = c .before .before .before .before .tables-fit .ensures .1 (not-false _ (c .before .before .before .if1 .left)) in omega (arith, f .links-long, f .blocks-from)
+shared-slice-read-fits c =
+    let at-tables-fit = c .before .before .before .before .tables-fit in
+    let at-if1 = c .before .before .before .if1 in
+    let f = at-tables-fit .ensures .1 (not-false _ (at-if1 .left)) in
+    omega (arith, f .links-long, f .blocks-from)
 
 fits-requires : tie.Need-fits-requires
 fits-requires c κs = search needs
 
 returns-3 : tie.Need-returns-3
-returns-3 c = let a = c .before .before .before .before .before .before .before .before .before .args in refuses-6 (a .signatures .now) (a .links .now) (a .block) (a .signature) (sym (c .before .before .before .before .before .before .tables-fit .ensures .0) ∙ not-false _ (c .before .before .before .before .before .if1 .left)) (sym (c .before .before .before .before .is-block .ensures) ∙ not-false _ (c .before .before .before .if2 .left)) (sym (c .before .fits2 .ensures) ∙ not-true _ (c .if3 .taken))
+returns-3 c =
+    let start = c .before .before .before .before .before .before .before .before .before in
+    let at-tables-fit = c .before .before .before .before .before .before .tables-fit in
+    let at-if1 = c .before .before .before .before .before .if1 in
+    let at-is-block = c .before .before .before .before .is-block in
+    let at-if2 = c .before .before .before .if2 in
+    let at-fits2 = c .before .fits2 in
+    let a = start .args in
+    refuses-6 (a .signatures .now) (a .links .now) (a .block) (a .signature) (sym (at-tables-fit .ensures .0) ∙ not-false _ (at-if1 .left)) (sym (at-is-block .ensures) ∙ not-false _ (at-if2 .left)) (sym (at-fits2 .ensures) ∙ not-true _ (c .if3 .taken))
 
 filed-of-requires : tie.Need-filed-of-requires
 filed-of-requires c κs =
-    let f = c .before .before .before .before .before .before .tables-fit .ensures .1 (not-false _ (c .before .before .before .before .before .if1 .left)) in
-    let r = block-of (c .before .before .before .before .before .before .before .before .before .args .block) (length (c .before .before .before .before .before .before .before .before .before .args .signatures .now)) (sym (c .before .before .before .before .is-block .ensures) ∙ not-false _ (c .before .before .before .if2 .left)) in
+    let start = c .before .before .before .before .before .before .before .before .before in
+    let at-tables-fit = c .before .before .before .before .before .before .tables-fit in
+    let at-if1 = c .before .before .before .before .before .if1 in
+    let at-is-block = c .before .before .before .before .is-block in
+    let at-if2 = c .before .before .before .if2 in
+    let f = at-tables-fit .ensures .1 (not-false _ (at-if1 .left)) in
+    let r = block-of (start .args .block) (length (start .args .signatures .now)) (sym (at-is-block .ensures) ∙ not-false _ (at-if2 .left)) in
     omega (arith, f .links-long, r)
 
 returns-4 : tie.Need-returns-4
-returns-4 c = let a = c .before .before .before .before .before .before .before .before .before .before .before .args in refuses-7 (a .signatures .now) (a .links .now) (a .block) (a .signature) (sym (c .before .before .before .before .before .before .before .before .tables-fit .ensures .0) ∙ not-false _ (c .before .before .before .before .before .before .before .if1 .left)) (sym (c .before .before .before .before .before .before .is-block .ensures) ∙ not-false _ (c .before .before .before .before .before .if2 .left)) (sym (c .before .before .before .fits2 .ensures) ∙ not-false _ (c .before .before .if3 .left)) (λ z. c .if4 .taken (c .before .filed-of .ensures ∙ z))
+returns-4 c =
+    let start = c .before .before .before .before .before .before .before .before .before .before .before in
+    let at-tables-fit = c .before .before .before .before .before .before .before .before .tables-fit in
+    let at-if1 = c .before .before .before .before .before .before .before .if1 in
+    let at-is-block = c .before .before .before .before .before .before .is-block in
+    let at-if2 = c .before .before .before .before .before .if2 in
+    let at-fits2 = c .before .before .before .fits2 in
+    let at-if3 = c .before .before .if3 in
+    let at-filed-of = c .before .filed-of in
+    let a = start .args in
+    refuses-7 (a .signatures .now) (a .links .now) (a .block) (a .signature) (sym (at-tables-fit .ensures .0) ∙ not-false _ (at-if1 .left)) (sym (at-is-block .ensures) ∙ not-false _ (at-if2 .left)) (sym (at-fits2 .ensures) ∙ not-false _ (at-if3 .left)) (λ z. c .if4 .taken (at-filed-of .ensures ∙ z))
 
 returns-5 : tie.Need-returns-5
-returns-5 c = let a = c .before .before .before .before .before .before .before .before .before .before .before .args in refuses-none (a .signatures .now) (a .links .now) (a .block) (a .signature) (sym (c .before .before .before .before .before .before .before .before .tables-fit .ensures .0) ∙ not-false _ (c .before .before .before .before .before .before .before .if1 .left)) (sym (c .before .before .before .before .before .before .is-block .ensures) ∙ not-false _ (c .before .before .before .before .before .if2 .left)) (sym (c .before .before .before .fits2 .ensures) ∙ not-false _ (c .before .before .if3 .left)) (sym (c .before .filed-of .ensures) ∙ c .if4 .left)
+returns-5 c =
+    let start = c .before .before .before .before .before .before .before .before .before .before .before in
+    let at-tables-fit = c .before .before .before .before .before .before .before .before .tables-fit in
+    let at-if1 = c .before .before .before .before .before .before .before .if1 in
+    let at-is-block = c .before .before .before .before .before .before .is-block in
+    let at-if2 = c .before .before .before .before .before .if2 in
+    let at-fits2 = c .before .before .before .fits2 in
+    let at-if3 = c .before .before .if3 in
+    let at-filed-of = c .before .filed-of in
+    let a = start .args in
+    refuses-none (a .signatures .now) (a .links .now) (a .block) (a .signature) (sym (at-tables-fit .ensures .0) ∙ not-false _ (at-if1 .left)) (sym (at-is-block .ensures) ∙ not-false _ (at-if2 .left)) (sym (at-fits2 .ensures) ∙ not-false _ (at-if3 .left)) (sym (at-filed-of .ensures) ∙ c .if4 .left)
 
 pub first-no-spec : {M : Type 1} → statement M
 first-no-spec =

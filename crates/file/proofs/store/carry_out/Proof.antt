@@ -15,19 +15,31 @@ enum-told-2 : tie.Need-enum-told-2
 enum-told-2 c = search needs
 
 store-first-requires : tie.Need-store-first-requires
-store-first-requires c κs = let f = subst (λ (p : Plan). PlanFits (c .before .before .before .before .args .blocks) (c .before .before .before .before .args .links .now) p) (c .before .enum-told2 .given .1) (c .before .before .before .before .pre .1) in omega (arith, f)
+store-first-requires c κs =
+    let start = c .before .before .before .before in
+    let at-enum-told2 = c .before .enum-told2 in
+    let f = subst (λ (p : Plan). PlanFits (start .args .blocks) (start .args .links .now) p) (at-enum-told2 .given .1) (start .pre .1) in
+    omega (arith, f)
 
 enum-known-plan : tie.Need-enum-known-plan
 enum-known-plan c = search needs
 
 store-join-requires : tie.Need-store-join-requires
-store-join-requires c κs = let f = subst (λ (p : Plan). PlanFits (c .before .before .before .before .before .args .blocks) (c .before .before .before .before .before .args .links .now) p) (c .before .before .plan .given .1) (c .before .before .before .before .before .pre .1) in omega (arith, f)
+store-join-requires c κs =
+    let start = c .before .before .before .before .before in
+    let at-plan = c .before .before .plan in
+    let f = subst (λ (p : Plan). PlanFits (start .args .blocks) (start .args .links .now) p) (at-plan .given .1) (start .pre .1) in
+    omega (arith, f)
 
 enum-known-plan-2 : tie.Need-enum-known-plan-2
 enum-known-plan-2 c = search needs
 
 store-split-requires : tie.Need-store-split-requires
-store-split-requires c κs = let f = subst (λ (p : Plan). PlanFits (c .before .before .before .before .before .args .blocks) (c .before .before .before .before .before .args .links .now) p) (c .before .before .plan2 .given .1) (c .before .before .before .before .before .pre .1) in omega (arith, f)
+store-split-requires c κs =
+    let start = c .before .before .before .before .before in
+    let at-plan2 = c .before .before .plan2 in
+    let f = subst (λ (p : Plan). PlanFits (start .args .blocks) (start .args .links .now) p) (at-plan2 .given .1) (start .pre .1) in
+    omega (arith, f)
 
 returns : tie.Need-returns
 returns c = rw (c .enum-told .given .1) (refl, refl)

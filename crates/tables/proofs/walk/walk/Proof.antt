@@ -29,7 +29,11 @@ wide-requires : tie.Need-wide-requires Inv-loop μ-loop
 wide-requires c κs = search needs
 
 returns : tie.Need-returns Inv-loop μ-loop
-returns c = let l = c .before .before .before .before .loop in (walk-ends _ _ _ _ _ _ _ (l .inv .2) (inl (omega (arith, c .before .wide .ensures))), (l .inv .0, l .inv .1))
+returns c =
+    let at-loop = c .before .before .before .before .loop in
+    let at-wide = c .before .wide in
+    let l = at-loop in
+    (walk-ends _ _ _ _ _ _ _ (l .inv .2) (inl (omega (arith, at-wide .ensures))), (l .inv .0, l .inv .1))
 
 sub-node : tie.Need-sub-node Inv-loop μ-loop
 sub-node c = search needs
@@ -38,8 +42,17 @@ edge-requires : tie.Need-edge-requires Inv-loop μ-loop
 edge-requires c κs = search needs
 
 returns-2 : tie.Need-returns-2 Inv-loop μ-loop
-returns-2 c = let l = c .before .before .before .before .before .before .loop in
-    (walk-fails _ _ _ _ _ _ _ _ (c .before .before .before .wide .ensures) (c .before .before .before .before .before .loop-test .taken) (l .inv .2) (c .before .before .if1 .left) (λ f. let h = c .before .edge .ensures .fit f in omega arith), (omega arith, omega arith))
+returns-2 c =
+    let at-loop = c .before .before .before .before .before .before .loop in
+    let at-loop-test = c .before .before .before .before .before .loop-test in
+    let at-wide = c .before .before .before .wide in
+    let at-if1 = c .before .before .if1 in
+    let at-edge = c .before .edge in
+    let l = at-loop in (
+      walk-fails _ _ _ _ _ _ _ _ (at-wide .ensures) (at-loop-test .taken) (l .inv .2) (at-if1 .left) (λ f. let h = at-edge .ensures .fit f in
+          omega arith),
+      (omega arith, omega arith),
+    )
 
 mul-link : tie.Need-mul-link Inv-loop μ-loop
 mul-link c = let f = c .before .edge .ensures .node (c .if2 .left) in search needs
@@ -66,11 +79,18 @@ loop-less : tie.Need-loop-less Inv-loop μ-loop
 loop-less c = search needs
 
 loop-again : tie.Need-loop-again Inv-loop μ-loop
-loop-again c = let l = c .before .before .before .before .before .before .loop in
-    let f = c .before .edge .ensures .node (c .if2 .left) in
-    let b = c .before .edge .ensures .bit (c .if2 .left) in
+loop-again c =
+    let start = c .before .before .before .before .before .before .before .before in
+    let at-loop = c .before .before .before .before .before .before .loop in
+    let at-loop-test = c .before .before .before .before .before .loop-test in
+    let at-wide = c .before .before .before .wide in
+    let at-if1 = c .before .before .if1 in
+    let at-edge = c .before .edge in
+    let l = at-loop in
+    let f = at-edge .ensures .node (c .if2 .left) in
+    let b = at-edge .ensures .bit (c .if2 .left) in
     let g = f .0 in
-    (omega arith, l .inv .0, walk-steps _ _ _ _ _ _ _ _ _ (c .before .before .before .wide .ensures) (c .before .before .before .before .before .loop-test .taken) (l .inv .2) (c .before .before .if1 .left) f (ap (sideAt (c .before .before .before .before .before .before .before .before .args .blocks) _) b))
+    (omega arith, l .inv .0, walk-steps _ _ _ _ _ _ _ _ _ (at-wide .ensures) (at-loop-test .taken) (l .inv .2) (at-if1 .left) f (ap (sideAt (start .args .blocks) _) b))
 
 returns-3 : tie.Need-returns-3 Inv-loop μ-loop
 returns-3 c = let l = c .before .loop in (walk-ends _ _ _ _ _ _ _ (l .inv .2) (inr (c .loop-test .left)), (l .inv .0, l .inv .1))
