@@ -1,9 +1,10 @@
 pub mod Chains
-pub mod Found
-pub mod Plans
 pub mod Cut
 pub mod Over
+pub mod Found
+pub mod Plans
+pub mod Promised
+pub mod Freed
 pub mod Withdrawing
 pub mod Raising
 pub mod Withdrawn
-pub mod Promised

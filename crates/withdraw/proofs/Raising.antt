@@ -10,7 +10,7 @@ use mathlib.Core.List.{List, [], _∷_, _++_, List·Memᴰ, List·Memᴰ·head, 
 use lib.Pow.{pow-pos}
 use Rattle.model.specs.Signature.{bitAt}
 use Rattle.model.specs.Tree.{leaf, remove, Edge, edge, Agrees, Untested}
-use Rattle.model.specs.Tables.{word, rootAt, freeAt, nextAt, positionAt, sideAt, leftAt, rightAt, rootOf, freeOf, nextOf, filedOf, sideOf, signatureOf}
+use Rattle.model.specs.Tables.{word, rootAt, freeAt, nextAt, positionAt, sideAt, leftAt, rightAt, freeOf, nextOf, filedOf, sideOf, signatureOf}
 use Rattle.model.specs.Sound.{Shape, tip, fork, Rooted, none, some, Holds, Placed, nodes, blocks, blocksIn, FreeChain, SoundAt}
 use Rattle.model.specs.Stores.{Store, _↤_, stores}
 use Rattle.model.specs.Withdraw.{withdrawalStores, lastStores, raiseStores, withdrawSignatures}
@@ -21,10 +21,16 @@ use Rattle.tables.proofs.Trees.{treeShape, treeRooted, tree-same, tree-of-sound
 use Rattle.tables.proofs.Sides.{pick, forked, edge-small, tree-forked, on-side, off-side, which-side, sides-held, not-on-sides, sides-placed, sides-blocks}
 use Rattle.tables.proofs.Steps.{remove-noded, remove-raised, remove-leaf}
 use Rattle.tables.proofs.Ways.{Way, spot, replace, pathTo, part-blocks, part-nodes, part-holds, part-placed, replace-tree}
-use Rattle.tables.proofs.Links.{Apart, spot-link, link-other}
-use Rattle.tables.proofs.Graft.{SameNode, graft-nodes-new, graft-nodes-old, graft-nodes-cases, spot-above, part-gone}
+use Rattle.tables.proofs.Links.{Apart, spot-link}
+use Rattle.tables.proofs.Graft.{SameNode, spot-above}
 use Rattle.tables.proofs.After.{Old, old, Kept, Quiet, kept-withdrawal, after, after-graft}
+use Rattle.withdraw.proofs.Freed.{free-stays, freed-outside, freed-all}
 use Rattle.withdraw.proofs.Withdrawing.{Twin, Leaves, others}
+
+-- the only entry
+one : (x c : ℕ) → (c ≡ x) ⊎ List·Memᴰ c [] → c ≡ x
+one x c (inl e) = e
+one x c (inr m) = absurd (List·Memᴰ·not-nil m)
 
 -- a shape placed under a path is placed under the path less an edge
 untested-less : (p : ℕ) (ext : List Edge) (e : Edge) (path : List Edge) → Untested p (ext ++ e ∷ path) → Untested p (ext ++ path)
@@ -94,10 +100,6 @@ module _ {B F : ℕ} {sigs L : List ℕ} (S : SoundAt B F sigs L) (b : ℕ) (b1 
       A = O .link at (spot-link B rootAt w)
 
       -- the blocks and the nodes of the part are b, i and the sibling's
-      one : (c : ℕ) → (c ≡ b) ⊎ List·Memᴰ c [] → c ≡ b
-      one c (inl y) = y
-      one c (inr m) = absurd (List·Memᴰ·not-nil m)
-
       b-in : List·Memᴰ b (blocks (forked e i p (tip b []) x))
       b-in = on-side blocks (tip b []) x e (List·Memᴰ·head refl)
 
@@ -164,15 +166,28 @@ module _ {B F : ℕ} {sigs L : List ℕ} (S : SoundAt B F sigs L) (b : ℕ) (b1 
             i-range .1,
             stored-at L (withdrawalStores L b []) (positionAt B i) 0 ((leftAt B i ↤ freeOf L) ∷ (rightAt B i ↤ 0) ∷ (freeAt ↤ i) ∷ (at ↤ r) ∷ []) (omega (arith, i-range, S .fits .links-long)) (omega (arith, A .position i (i-range .0))),
             stored-at L (withdrawalStores L b ((positionAt B i ↤ 0) ∷ (leftAt B i ↤ freeOf L) ∷ [])) (rightAt B i) 0 ((freeAt ↤ i) ∷ (at ↤ r) ∷ []) (omega (arith, i-range, S .fits .links-long)) (omega arith),
-            free-same B L raised (freeOf L) (word raised (leftAt B i)) (S .free)
+            free-stays S t is-t w raised (word raised (leftAt B i))
                 (stored-at L (withdrawalStores L b ((positionAt B i ↤ 0) ∷ [])) (leftAt B i) (freeOf L) ((rightAt B i ↤ 0) ∷ (freeAt ↤ i) ∷ (at ↤ r) ∷ []) (omega (arith, i-range, S .fits .links-long)) (omega arith))
-                (λ j m.
-                let g = free-range B L (freeOf L) (S .free) (S .free-holds) j m in
-                let n = node-far j (g .0) (g .1) (λ y. O .outside i (Memᴰ·cast (sym y) m) i-in) in
-                let o = link-other B rootAt t at (spot-link B rootAt w) j (O .outside j m) (λ d y. omega arith) in
-                (n .0, n .1 0 (omega arith) (λ y. o 0 (omega arith) (sym y)), n .1 1 (omega arith) (λ y. o 1 (omega arith) (sym y))))
-                (S .free-holds),
+                (λ j m. let g = free-range B L (freeOf L) (S .free) (S .free-holds) j m in node-far j (g .0) (g .1) (λ y. O .outside i (Memᴰ·cast (sym y) m) i-in)),
           )
+
+      -- the part's nodes are the parent and the sibling's
+      theirs : (j : ℕ) → List·Memᴰ j (nodes (forked e i p (tip b []) x)) → List·Memᴰ j (i ∷ []) ⊎ List·Memᴰ j (nodes x)
+      theirs j m = go (List·Memᴰ·cases-cons m)
+        where
+          late : List·Memᴰ j [] ⊎ List·Memᴰ j (nodes x) → List·Memᴰ j (i ∷ []) ⊎ List·Memᴰ j (nodes x)
+          late (inl n) = absurd (List·Memᴰ·not-nil n)
+          late (inr n) = inr n
+
+          go : (j ≡ i) ⊎ List·Memᴰ j (nodes (pick e (tip b []) x) ++ nodes (pick e x (tip b []))) → List·Memᴰ j (i ∷ []) ⊎ List·Memᴰ j (nodes x)
+          go (inl y) = inl (List·Memᴰ·head y)
+          go (inr n) = late (which-side nodes (tip b []) x e n)
+
+      inside : (j : ℕ) → List·Memᴰ j (nodes x) → List·Memᴰ j (nodes (forked e i p (tip b []) x))
+      inside j m = List·Memᴰ·tail (off-side nodes (tip b []) x e m)
+
+      out : (j : ℕ) → List·Memᴰ j (i ∷ []) → List·Memᴰ j (nodes (forked e i p (tip b []) x)) × (List·Memᴰ j (nodes x) → ⊥)
+      out j m = let y = one i j (List·Memᴰ·cases-cons m) in (List·Memᴰ·head y, λ n. i-out j n y)
 
       made : (T : SoundAt B F sigs′ raised) × (T .tree ≡ some (replace w x))
       made = after-graft S b b1 bB 0 0 (omega arith) (pow-pos F) (λ y. refl) raised K t is-t w x
@@ -184,36 +199,12 @@ module _ {B F : ℕ} {sigs L : List ℕ} (S : SoundAt B F sigs L) (b : ℕ) (b1 
           (λ c n m. stay c n (which-side blocks (tip b []) x e m))
           (λ y. absurd (omega arith))
           (i ∷ S .free) free-raised
-          (λ j m n. apart j n (List·Memᴰ·cases-cons m))
-          (λ j h h′. both j (O .all j h h′))
+          (freed-outside S t is-t w x (i ∷ []) theirs inside out)
+          (freed-all S t is-t w x (i ∷ []) theirs inside out)
         where
           stay : (c : ℕ) → c ≢ b → List·Memᴰ c (b ∷ []) ⊎ List·Memᴰ c (blocks x) → List·Memᴰ c (blocks x)
-          stay c n (inl m) = absurd (n (one c (List·Memᴰ·cases-cons m)))
+          stay c n (inl m) = absurd (n (one b c (List·Memᴰ·cases-cons m)))
           stay c n (inr m) = m
-
-          apart₂ : (j : ℕ) → List·Memᴰ j (S .free) → List·Memᴰ j (nodes t) ⊎ List·Memᴰ j (nodes x) → ⊥
-          apart₂ j m (inl n) = O .outside j m n
-          apart₂ j m (inr n) = O .outside j m (x-nodes j n)
-
-          apart : (j : ℕ) → List·Memᴰ j (nodes (replace w x)) → (j ≡ i) ⊎ List·Memᴰ j (S .free) → ⊥
-          apart j n (inl y) = part-gone B sigs L [] (rootOf L) w x (O .holds) (O .placed) i (List·Memᴰ·head refl) (λ m. i-out i m refl) (Memᴰ·cast (sym y) n)
-          apart j n (inr m) = apart₂ j m (graft-nodes-cases w x j n)
-
-          both₄ : (j : ℕ) → List·Memᴰ j [] ⊎ List·Memᴰ j (nodes x) → List·Memᴰ j (nodes (replace w x)) ⊎ List·Memᴰ j (i ∷ S .free)
-          both₄ j (inl m) = absurd (List·Memᴰ·not-nil m)
-          both₄ j (inr m) = inl (graft-nodes-new w x j m)
-
-          both₃ : (j : ℕ) → (j ≡ i) ⊎ List·Memᴰ j (nodes (pick e (tip b []) x) ++ nodes (pick e x (tip b []))) → List·Memᴰ j (nodes (replace w x)) ⊎ List·Memᴰ j (i ∷ S .free)
-          both₃ j (inl y) = inr (List·Memᴰ·head y)
-          both₃ j (inr m) = both₄ j (which-side nodes (tip b []) x e m)
-
-          both₂ : (j : ℕ) → List·Memᴰ j (nodes (replace w x)) ⊎ List·Memᴰ j (nodes (forked e i p (tip b []) x)) → List·Memᴰ j (nodes (replace w x)) ⊎ List·Memᴰ j (i ∷ S .free)
-          both₂ j (inl m) = inl m
-          both₂ j (inr m) = both₃ j (List·Memᴰ·cases-cons m)
-
-          both : (j : ℕ) → List·Memᴰ j (nodes t) ⊎ List·Memᴰ j (S .free) → List·Memᴰ j (nodes (replace w x)) ⊎ List·Memᴰ j (i ∷ S .free)
-          both j (inl m) = both₂ j (graft-nodes-old w x j m)
-          both j (inr m) = inr (List·Memᴰ·tail m)
 
       tree-raised : treeShape sigs′ (replace w x) ≡ remove F s (treeShape sigs t)
       tree-raised = replace-tree (remove F s) sigs sigs′ L (remove-noded F s sigs′) [] w x (O .placed)
@@ -237,10 +228,6 @@ module _ {B F : ℕ} {sigs L : List ℕ} (S : SoundAt B F sigs L) (b : ℕ) (b1 
         K : Kept S b b1 bB 0 L′
         K = kept-withdrawal S b b1 bB ws filed (record { width = omega arith; told = omega arith; count = omega arith; filed = λ c x y. omega arith; next = λ c n x y f. omega arith }) (omega arith)
 
-        lone : (c : ℕ) → c ≢ b → (c ≡ b) ⊎ List·Memᴰ c [] → ⊥
-        lone c n (inl x) = n x
-        lone c n (inr m) = List·Memᴰ·not-nil m
-
         rest : (j : ℕ) → List·Memᴰ j (nodes t) ⊎ List·Memᴰ j (S .free) → List·Memᴰ j (S .free)
         rest j (inl m) = absurd (List·Memᴰ·not-nil (subst (λ (x : Shape). List·Memᴰ j (nodes x)) e m))
         rest j (inr m) = m
@@ -248,7 +235,7 @@ module _ {B F : ℕ} {sigs L : List ℕ} (S : SoundAt B F sigs L) (b : ℕ) (b1 
         made : (T : SoundAt B F sigs′ L′) × (T .tree ≡ none)
         made = after S b b1 bB 0 0 (omega arith) (pow-pos F) (λ y. refl) L′ K none
             (stored-at L (withdrawalStores L b []) rootAt 0 [] (omega (arith, S .fits .links-long)) tt) tt
-            (λ c n m. absurd (lone c n (List·Memᴰ·cases-cons (subst (λ (x : Shape). List·Memᴰ c (blocks x)) e (subst (λ (x : Rooted). List·Memᴰ c (blocksIn x)) is-t m)))))
+            (λ c n m. absurd (n (one b c (List·Memᴰ·cases-cons (subst (λ (x : Shape). List·Memᴰ c (blocks x)) e (subst (λ (x : Rooted). List·Memᴰ c (blocksIn x)) is-t m))))))
             (λ y. absurd (omega arith))
             (S .free)
             (free-same B L L′ (freeOf L) (freeOf L′) (S .free) (stored-same L (lastStores L b) freeAt (omega arith))

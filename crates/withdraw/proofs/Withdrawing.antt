@@ -9,19 +9,20 @@ use mathlib.Core.List.{List, [], _∷_, List·Memᴰ, List·Memᴰ·head, List·
 use lib.Pow.{pow-pos}
 use Rattle.model.specs.Tree.{leaf, remove, Agrees}
 use Rattle.model.specs.Tables.{word, rootAt, freeAt, countAt, nextAt, filedAt, positionAt, sideAt, rootOf, freeOf, nextOf, filedOf, signatureOf, treeFrom}
-use Rattle.model.specs.Sound.{Shape, tip, some, Holds, Placed, nodes, blocks, FreeChain, SoundAt}
+use Rattle.model.specs.Sound.{Shape, tip, some, Holds, Placed, blocks, FreeChain, SoundAt}
 use Rattle.model.specs.Stores.{Store, _↤_, stores}
 use Rattle.model.specs.Withdraw.{withdrawalStores, unlinkStores, headStores, withdrawSignatures}
 use Rattle.model.proofs.Stores.{stored-same, stored-at}
 use Rattle.model.proofs.Pigeon.{without, without-keeps, without-in, without-gone}
 use Rattle.tables.proofs.Shapes.{chain-same, chain-no-return}
-use Rattle.tables.proofs.Counts.{free-same, free-range}
+use Rattle.tables.proofs.Counts.{free-range}
 use Rattle.tables.proofs.Trees.{treeRooted, tree-of-sound}
 use Rattle.tables.proofs.Ways.{Way, spot, replace, pathTo, part-blocks, part-holds, part-placed, replace-tree}
-use Rattle.tables.proofs.Links.{Apart, spot-link, link-other}
-use Rattle.tables.proofs.Graft.{SameNode, graft-nodes-old, graft-nodes-cases}
+use Rattle.tables.proofs.Links.{Apart, spot-link}
+use Rattle.tables.proofs.Graft.{SameNode}
 use Rattle.tables.proofs.After.{signature-other, Old, old, Kept, Quiet, kept-withdrawal, after-graft}
 use Rattle.withdraw.proofs.Chains.{chain-distinct}
+use Rattle.withdraw.proofs.Freed.{free-stays, freed-outside, freed-all}
 use Rattle.withdraw.proofs.Cut.{before, before-in, before-other, chain-cut}
 
 module _ {B F : ℕ} {sigs L : List ℕ} (S : SoundAt B F sigs L) (b : ℕ) (b1 : 1 ≤ b) (bB : b ≤ B) (filed : filedOf L b ≡ 1) where
@@ -122,14 +123,8 @@ module _ {B F : ℕ} {sigs L : List ℕ} (S : SoundAt B F sigs L) (b : ℕ) (b1 
             (subst (λ (x : ℕ). Agrees F x (pathTo [] w)) (sym e) (leafP .0), λ c m. (same c m .0, same c m .1 ∙ sym e))
 
         free-far : FreeChain B relinked (freeOf relinked) (S .free)
-        free-far = free-same B L relinked (freeOf L) (freeOf relinked) (S .free)
-            (far freeAt (omega arith) (λ c x y. omega arith) (λ e. A .first (sym e)))
-            (λ j m.
-            let r = free-range B L (freeOf L) (S .free) (S .free-holds) j m in
-            let n = node-far j (r .0) in
-            let o = link-other B rootAt t (spot B rootAt w) (spot-link B rootAt w) j (O .outside j m) (λ e x. omega arith) in
-            (n .0, n .1 0 (omega arith) (λ e. o 0 (omega arith) (sym e)), n .1 1 (omega arith) (λ e. o 1 (omega arith) (sym e))))
-            (S .free-holds)
+        free-far = free-stays S t is-t w relinked (freeOf relinked) (far freeAt (omega arith) (λ c x y. omega arith) (λ e. A .first (sym e)))
+            (λ j m. node-far j (free-range B L (freeOf L) (S .free) (S .free-holds) j m .0))
 
         made : (T : SoundAt B F (withdrawSignatures sigs b) relinked) × (T .tree ≡ some (replace w (tip g ds)))
         made = after-graft S b b1 bB 0 0 (omega arith) (pow-pos F) (λ e. refl) relinked K t is-t w (tip g ds)
@@ -140,20 +135,8 @@ module _ {B F : ℕ} {sigs L : List ℕ} (S : SoundAt B F sigs L) (b : ℕ) (b1 
             spelled put sup
             (λ e. absurd (omega arith))
             (S .free) free-far
-            (λ j m n. apart j m (graft-nodes-cases w (tip g ds) j n))
-            (λ j x y. both j (O .all j x y))
-          where
-            apart : (j : ℕ) → List·Memᴰ j (S .free) → List·Memᴰ j (nodes t) ⊎ List·Memᴰ j [] → ⊥
-            apart j m (inl n) = O .outside j m n
-            apart j m (inr n) = List·Memᴰ·not-nil n
-
-            both₂ : (j : ℕ) → List·Memᴰ j (nodes (replace w (tip g ds))) ⊎ List·Memᴰ j [] → List·Memᴰ j (nodes (replace w (tip g ds))) ⊎ List·Memᴰ j (S .free)
-            both₂ j (inl m) = inl m
-            both₂ j (inr m) = absurd (List·Memᴰ·not-nil m)
-
-            both : (j : ℕ) → List·Memᴰ j (nodes t) ⊎ List·Memᴰ j (S .free) → List·Memᴰ j (nodes (replace w (tip g ds))) ⊎ List·Memᴰ j (S .free)
-            both j (inl m) = both₂ j (graft-nodes-old w (tip g ds) j m)
-            both j (inr m) = inr m
+            (freed-outside S t is-t w (tip g ds) [] (λ j m. inl m) (λ j m. m) (λ j m. absurd (List·Memᴰ·not-nil m)))
+            (freed-all S t is-t w (tip g ds) [] (λ j m. inl m) (λ j m. m) (λ j m. absurd (List·Memᴰ·not-nil m)))
 
         -- the plain tree has the same leaf there
         tree-stays : treeFrom B (withdrawSignatures sigs b) relinked F (rootOf relinked) ≡ treeFrom B sigs L F (rootOf L)

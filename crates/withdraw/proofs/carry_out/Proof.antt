@@ -14,7 +14,9 @@ plan-block-requires : tie.Need-plan-block-requires
 plan-block-requires c κs = c .before .before .before .before .pre
 
 make-requires : tie.Need-make-requires
-make-requires c κs = let p = c .before .before .before .before .before .before .pre in ((p .fits .blocks-to, p .fits .links-long, p .from, p .to), c .before .plan-block .ensures .1)
+make-requires c κs =
+    let p = c .before .before .before .before .before .before .pre in
+    ((p .fits .blocks-to, p .fits .links-long, p .from, p .to), c .before .plan-block .ensures .1)
 
 same-length : tie.Need-same-length
 same-length c = search needs
@@ -23,7 +25,10 @@ same-length-2 : tie.Need-same-length-2
 same-length-2 c = search needs
 
 returns : tie.Need-returns
-returns c = gives-up _ _ _ _ (c .before .before .before .before .before .plan-block .ensures .0) _ (c .before .before .before .make .ensures .1) (sym (c .before .before .before .make .ensures .0) ∙ not-true _ (c .if1 .taken))
+returns c =
+    let p = c .before .before .before .before .before .plan-block .ensures .0 in
+    let m = c .before .before .before .make .ensures in
+    gives-up _ _ _ _ p _ (m .1) (sym (m .0) ∙ not-true _ (c .if1 .taken))
 
 mul-signatures : tie.Need-mul-signatures
 mul-signatures c = search needs
@@ -38,7 +43,10 @@ same-length-4 : tie.Need-same-length-4
 same-length-4 c = search needs
 
 returns-2 : tie.Need-returns-2
-returns-2 c = carries-out _ _ _ _ (c .before .before .before .before .before .plan-block .ensures .0) _ (c .before .before .before .make .ensures .1) (sym (c .before .before .before .make .ensures .0) ∙ not-false _ (c .if1 .left))
+returns-2 c =
+    let p = c .before .before .before .before .before .plan-block .ensures .0 in
+    let m = c .before .before .before .make .ensures in
+    carries-out _ _ _ _ p _ (m .1) (sym (m .0) ∙ not-false _ (c .if1 .left))
 
 pub carry-out-spec : {M : Type 1} → statement M
 carry-out-spec =

@@ -48,7 +48,9 @@ loop-less : tie.Need-loop-less Inv-loop μ-loop
 loop-less c = search needs
 
 loop-again : tie.Need-loop-again Inv-loop μ-loop
-loop-again c = let r = block-in _ _ (sym (c .before .is-block .ensures) ∙ not-false _ (c .if2 .left)) in (r .0, r .1, λ cs q m. pass (c .before .before .before .next-of .ensures) _ (c .before .before .before .before .before .loop .inv .2 cs q m) (c .before .before .if1 .left))
+loop-again c =
+    let r = block-in _ _ (sym (c .before .is-block .ensures) ∙ not-false _ (c .if2 .left)) in
+    (r .0, r .1, λ cs q m. pass (c .before .before .before .next-of .ensures) _ (c .before .before .before .before .before .loop .inv .2 cs q m) (c .before .before .if1 .left))
 
 returns-3 : tie.Need-returns-3 Inv-loop μ-loop
 returns-3 c = ((λ cs q m. let k = some-left (c .before .loop .inv .2 cs q m) in absurd (omega arith)), omega arith)

@@ -15,7 +15,9 @@ returns : tie.Need-returns
 returns c = ((λ cs h k q m. absurd (not-block _ _ (sym (c .before .is-block .ensures) ∙ not-true _ (c .if1 .taken)) h k)), tt)
 
 find-before-requires : tie.Need-find-before-requires
-find-before-requires c κs = let r = block-in _ _ (sym (c .before .is-block .ensures) ∙ not-false _ (c .if1 .left)) in (omega arith, omega arith, r .0, r .1)
+find-before-requires c κs =
+    let r = block-in _ _ (sym (c .before .is-block .ensures) ∙ not-false _ (c .if1 .left)) in
+    (omega arith, omega arith, r .0, r .1)
 
 returns-2 : tie.Need-returns-2
 returns-2 c = ((λ cs h k q m. let z = c .before .find-before .ensures .0 cs q m .1 in absurd (omega (arith, c .if2 .taken))), tt)

@@ -27,13 +27,19 @@ edge-requires : tie.Need-edge-requires
 edge-requires c κs = search needs
 
 returns-2 : tie.Need-returns-2
-returns-2 c = (no-raise _ _ _ _ _ _ _ _ (ap (λ (n : ℕ). n - c .before .before .before .before .before .before .args .blocks) (c .before .before .before .wide .ensures)) (c .before .edge .ensures) _ (c .if2 .taken), tt)
+returns-2 c =
+    let i = ap (λ (n : ℕ). n - c .before .before .before .before .before .before .args .blocks) (c .before .before .before .wide .ensures) in
+    (no-raise _ _ _ _ _ _ _ _ i (c .before .edge .ensures) _ (c .if2 .taken), tt)
 
 side-of-requires : tie.Need-side-of-requires
 side-of-requires c κs = (omega arith, c .before .edge .ensures .node (c .if2 .left) .0, omega arith)
 
 returns-3 : tie.Need-returns-3
-returns-3 c = (raises _ _ _ _ _ _ _ _ (ap (λ (n : ℕ). n - c .before .before .before .before .before .before .before .args .blocks) (c .before .before .before .before .wide .ensures)) (c .before .before .edge .ensures) _ (c .before .if2 .left) (c .side-of .ensures), (omega arith, omega arith, omega arith, c .before .before .edge .ensures .node (c .before .if2 .left) .0))
+returns-3 c =
+    let i = ap (λ (n : ℕ). n - c .before .before .before .before .before .before .before .args .blocks) (c .before .before .before .before .wide .ensures) in
+    let h = c .before .if2 .left in
+    let e = c .before .before .edge .ensures in
+    (raises _ _ _ _ _ _ _ _ i e _ h (c .side-of .ensures), (omega arith, omega arith, omega arith, e .node h .0))
 
 pub plan-raise-spec : {M : Type 1} → statement M
 plan-raise-spec =

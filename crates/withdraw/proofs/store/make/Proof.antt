@@ -14,13 +14,17 @@ enum-known-plan : tie.Need-enum-known-plan
 enum-known-plan c = search needs
 
 relink-requires : tie.Need-relink-requires
-relink-requires c κs = let f = subst (PlanFits _ _) (c .before .before .plan .given .1) (c .before .before .before .before .before .pre .1) in omega (arith, f)
+relink-requires c κs =
+    let f = subst (PlanFits _ _) (c .before .before .plan .given .1) (c .before .before .before .before .before .pre .1) in
+    omega (arith, f)
 
 enum-known-plan-2 : tie.Need-enum-known-plan-2
 enum-known-plan-2 c = search needs
 
 raise-requires : tie.Need-raise-requires
-raise-requires c κs = let f = subst (PlanFits _ _) (c .before .before .plan2 .given .1) (c .before .before .before .before .before .pre .1) in omega (arith, f)
+raise-requires c κs =
+    let f = subst (PlanFits _ _) (c .before .before .plan2 .given .1) (c .before .before .before .before .before .pre .1) in
+    omega (arith, f)
 
 returns : tie.Need-returns
 returns c = rw (c .enum-told .given .1) (refl, refl)
