@@ -1,4 +1,4 @@
-// Audit: are the tables sound? It only reads, ends on any words, and looks at each row, each node and each block on a chain at most once.
+// Audit: are the tables sound? It only reads, and on any words it ends after at most B rows, B - 1 nodes and B blocks on chains.
 mod answer;
 mod chain;
 mod free;
@@ -10,15 +10,21 @@ ghost use Rattle.model.specs.Promises.{AuditPromise};
 use answer::sound;
 use tables::front::tables_fit;
 
+// question 4's no
+const UNFIT: u32 = 4;
+
+// question 11's no
+const UNSOUND: u32 = 11;
+
 // The audit: 4 where question 4 says no, else 0 where the tables are sound, else 11.
 pub fn audit(signatures: &[u64], links: &[u32]) -> u32
     ensures { λ r. ⌜ AuditPromise (now (signatures .entry)) (now (links .entry)) r ⌝ }
 {
     if !tables_fit(signatures, links) {
-        return 4;
+        return UNFIT;
     }
     if sound(signatures, links) {
         return 0;
     }
-    11
+    UNSOUND
 }

@@ -1,4 +1,5 @@
--- `audit::answer::sound` meets its contract. Assumes nothing.
+-- `audit::answer::sound` meets its contract: each return is a step of the verdict (AnswerLaws).
+-- Assumes nothing.
 use mathlib.Core.Path.{sym, _∙_}
 use Prim.Native.Nat.{_-_}
 use borrow.Author.Tests.{not-true, not-false}

@@ -1,4 +1,5 @@
--- `audit::rows::row_fits` meets its contract. Assumes nothing.
+-- `audit::rows::row_fits` meets its contract: each return is a part of the test of a row.
+-- Assumes nothing.
 use mathlib.Core.Path.{sym, _∙_}
 use borrow.Author.Tests.{not-true, not-false}
 use borrow.Author.Needs.{needs}

@@ -1,4 +1,5 @@
--- `audit::walk::whole_tree` meets its contract. Assumes nothing.
+-- `audit::walk::whole_tree` meets its contract: no tree, or the walk from the root.
+-- Assumes nothing.
 use borrow.Author.Tests.{eq-eqb, ne-eqb}
 use Rattle.audit.specs.Audit.{treeTwin}
 use borrow.Author.Needs.{needs}
