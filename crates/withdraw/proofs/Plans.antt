@@ -4,7 +4,7 @@ use Prim.Native.Nat.{ℕ, _-_, _≤_, _<_}
 use native.Mathlib.Omega.{arith}
 use mathlib.Core.Path.{_≡_, refl, sym, _∙_, ap}
 use mathlib.Core.Logic.{_⊎_, inl, inr, _≢_}
-use mathlib.Core.Bool.{Bool, true, false, _&&_}
+use mathlib.Core.Bool.{true, false, _&&_}
 use mathlib.Core.List.{List, [], _∷_, List·Memᴰ, List·Memᴰ·cases-cons}
 use lib.Dec.{leb}
 use lib.ListN.{length}
@@ -16,6 +16,7 @@ use Rattle.model.specs.File.{spotOf}
 use Rattle.model.specs.Withdraw.{parentOf, withdrawalStores, unlinkStores, withdrawStores}
 use Rattle.tables.specs.Walk.{EdgeOf, Ends}
 use Rattle.tables.proofs.Counts.{filed-one}
+use Rattle.tables.proofs.Fits.{both}
 use Rattle.tables.proofs.Walks.{sound-fits}
 use Rattle.withdraw.specs.Asking.{Passed}
 use Rattle.withdraw.specs.Plan.{Plans, PlansChain, PlansRaise, PlansHead, storesOf}
@@ -25,12 +26,7 @@ use Rattle.withdraw.specs.declared.plan.Plan.the-variants.{Relink, Raise
 
 -- question 5's test as a fact, and back
 pub block-in : (B b : ℕ) → (leb 1 b && leb b B) ≡ true → (1 ≤ b) × (b ≤ B)
-block-in B b e = go (leb 1 b) (leb b B) refl refl e
-  where
-    go : (t u : Bool) → leb 1 b ≡ t → leb b B ≡ u → (t && u) ≡ true → (1 ≤ b) × (b ≤ B)
-    go true true x y z = (leb-true 1 b x, leb-true b B y)
-    go true false x y z = absurd (let k : _≡_ {A = ℕ} 0 1 = cc in omega arith)
-    go false u x y z = absurd (let k : _≡_ {A = ℕ} 0 1 = cc in omega arith)
+block-in B b e = let q = both {t = leb 1 b} e in (leb-true 1 b (q .0), leb-true b B (q .1))
 
 pub not-block : (B b : ℕ) → (leb 1 b && leb b B) ≡ false → 1 ≤ b → b ≤ B → ⊥
 not-block B b e h k = let z : (true && true) ≡ false = rw (le-leb 1 b h, le-leb b B k) at e in let y : _≡_ {A = ℕ} 0 1 = cc in omega arith

@@ -25,7 +25,7 @@ use Rattle.tables.proofs.Links.{Apart, spot-link}
 use Rattle.tables.proofs.Graft.{SameNode, spot-above}
 use Rattle.tables.proofs.After.{Old, old, Kept, Quiet, kept-withdrawal, after, after-graft}
 use Rattle.withdraw.proofs.Freed.{free-stays, freed-outside, freed-all}
-use Rattle.withdraw.proofs.Withdrawing.{Twin, Leaves, others}
+use Rattle.withdraw.proofs.Withdrawing.{Another, Leaves, others}
 
 -- the only entry
 one : (x c : ℕ) → (c ≡ x) ⊎ List·Memᴰ c [] → c ≡ x
@@ -47,7 +47,7 @@ placed-less F sigs L ext e path (fork i p l k) q =
     (q .0, q .1, untested-less p ext e path (q .2), placed-less F sigs L (edge p 0 ∷ ext) e path l (q .3), placed-less F sigs L (edge p 1 ∷ ext) e path k (q .4))
 
 module _ {B F : ℕ} {sigs L : List ℕ} (S : SoundAt B F sigs L) (b : ℕ) (b1 : 1 ≤ b) (bB : b ≤ B) (filed : filedOf L b ≡ 1) where
-  module _ (t : Shape) (is-t : S .tree ≡ some t) (alone : (c : ℕ) → Twin S b b1 bB filed c → ⊥) where
+  module _ (t : Shape) (is-t : S .tree ≡ some t) (alone : (c : ℕ) → Another S b b1 bB filed c → ⊥) where
     O : Old S t
     O = old S t is-t
 

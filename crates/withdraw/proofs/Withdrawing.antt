@@ -27,15 +27,15 @@ use Rattle.withdraw.proofs.Cut.{before, before-in, before-other, chain-
 
 module _ {B F : ℕ} {sigs L : List ℕ} (S : SoundAt B F sigs L) (b : ℕ) (b1 : 1 ≤ b) (bB : b ≤ B) (filed : filedOf L b ≡ 1) where
   -- another filed block c has b's signature
-  abbrev pub Twin : ℕ → Type 0
-  Twin c = (c ≢ b) × (1 ≤ c) × (c ≤ B) × (filedOf L c ≡ 1) × (signatureOf sigs c ≡ signatureOf sigs b)
+  abbrev pub Another : ℕ → Type 0
+  Another c = (c ≢ b) × (1 ≤ c) × (c ≤ B) × (filedOf L c ≡ 1) × (signatureOf sigs c ≡ signatureOf sigs b)
 
   -- sound tables; the plain tree stays while another filed block has the signature, and loses its leaf otherwise
   pub record Leaves (L′ : List ℕ) : Type 0 where
     pub kept : Kept S b b1 bB 0 L′
     pub sound : SoundAt B F (withdrawSignatures sigs b) L′
-    pub stays : (c : ℕ) → Twin c → treeFrom B (withdrawSignatures sigs b) L′ F (rootOf L′) ≡ treeFrom B sigs L F (rootOf L)
-    pub loses : ((c : ℕ) → Twin c → ⊥) → treeFrom B (withdrawSignatures sigs b) L′ F (rootOf L′) ≡ remove F (signatureOf sigs b) (treeFrom B sigs L F (rootOf L))
+    pub stays : (c : ℕ) → Another c → treeFrom B (withdrawSignatures sigs b) L′ F (rootOf L′) ≡ treeFrom B sigs L F (rootOf L)
+    pub loses : ((c : ℕ) → Another c → ⊥) → treeFrom B (withdrawSignatures sigs b) L′ F (rootOf L′) ≡ remove F (signatureOf sigs b) (treeFrom B sigs L F (rootOf L))
 
   -- the signatures of all other blocks
   pub others : (c : ℕ) → 1 ≤ c → c ≢ b → signatureOf (withdrawSignatures sigs b) c ≡ signatureOf sigs c

@@ -26,7 +26,7 @@ use Rattle.tables.proofs.Entries.{entry-unfiled, ledger-set}
 use Rattle.withdraw.proofs.Chains.{chain-short}
 use Rattle.withdraw.proofs.Cut.{blockBefore-is}
 use Rattle.withdraw.proofs.Over.{Over, over, node-reference, parentFrom-spot}
-use Rattle.withdraw.proofs.Withdrawing.{Twin, Leaves, others, head-leaves, later-leaves}
+use Rattle.withdraw.proofs.Withdrawing.{Another, Leaves, others, head-leaves, later-leaves}
 use Rattle.withdraw.proofs.Raising.{raise, last}
 
 module _ {B F : ℕ} {sigs L : List ℕ} (S : SoundAt B F sigs L) (b : ℕ) (b1 : 1 ≤ b) (bB : b ≤ B) (filed : filedOf L b ≡ 1) where
@@ -43,7 +43,7 @@ module _ {B F : ℕ} {sigs L : List ℕ} (S : SoundAt B F sigs L) (b : ℕ) (b1 
 
     -- b is alone on its chain: no other block has the signature
     module _ (w : Way F s (tip b []) t) where
-      alone : (c : ℕ) → Twin S b b1 bB filed c → ⊥
+      alone : (c : ℕ) → Another S b b1 bB filed c → ⊥
       alone c x = go (List·Memᴰ·cases-cons (found sigs L [] w (O .placed) c (O .chained c (x .1) (x .2) (x .3)) (x .4)))
         where
           go : (c ≡ b) ⊎ List·Memᴰ c [] → ⊥
@@ -132,16 +132,12 @@ module _ {sigs links : List ℕ} (S : Sound sigs links) (b : ℕ) (b1 : 1 ≤ b)
   pub withdraw-sound : Sound (withdrawSignatures sigs b) (withdrawLinks sigs links b)
   withdraw-sound = rw (left .sound .fits .sigs-long, left .sound .fits .width-word) (left .sound)
 
-  -- another filed block c has b's signature
-  abbrev pub Another : ℕ → Type 0
-  Another c = (c ≢ b) × (1 ≤ c) × (c ≤ length sigs) × (filedOf links c ≡ 1) × (signatureOf sigs c ≡ signatureOf sigs b)
-
-  -- then the plain tree stays
-  pub withdraw-stays : (c : ℕ) → Another c → treeOf (withdrawSignatures sigs b) (withdrawLinks sigs links b) ≡ treeOf sigs links
+  -- while another filed block has the signature the plain tree stays
+  pub withdraw-stays : (c : ℕ) → Another S b b1 bB filed c → treeOf (withdrawSignatures sigs b) (withdrawLinks sigs links b) ≡ treeOf sigs links
   withdraw-stays c x = rw (left .sound .fits .sigs-long, left .sound .fits .width-word) (left .stays c x)
 
   -- otherwise its leaf is taken away
-  pub withdraw-loses : ((c : ℕ) → Another c → ⊥) → treeOf (withdrawSignatures sigs b) (withdrawLinks sigs links b) ≡ remove (widthOf links) (signatureOf sigs b) (treeOf sigs links)
+  pub withdraw-loses : ((c : ℕ) → Another S b b1 bB filed c → ⊥) → treeOf (withdrawSignatures sigs b) (withdrawLinks sigs links b) ≡ remove (widthOf links) (signatureOf sigs b) (treeOf sigs links)
   withdraw-loses n = rw (left .sound .fits .sigs-long, left .sound .fits .width-word) (left .loses n)
 
   -- the lengths and the width stay
