@@ -9,7 +9,7 @@ use Rattle.model.specs.Tables.{positionAt, leftAt, rightAt}
 use Rattle.model.specs.Stores.{_↤_, stores}
 use Rattle.model.specs.Clear.{freeFrom, freeNodes}
 use Rattle.split.proofs.Nodes.{sets-append, node-stores}
-use Rattle.rebuild.proofs.Spelled.{free-step}
+use Rattle.tables.proofs.Spelled.{free-step}
 
 pub free-turn : (B i x : ℕ) (links after whole : List ℕ) → i < B → x ≡ freeFrom B (i + 1)
     → after ≡ stores links ((positionAt B i ↤ 0) ∷ (leftAt B i ↤ x) ∷ (rightAt B i ↤ 0) ∷ [])

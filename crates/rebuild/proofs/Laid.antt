@@ -12,7 +12,7 @@ use Rattle.model.specs.Clear.{freeFrom, freeNodes}
 use Rattle.model.specs.Rebuild.{groupReference, groupNodes, groupLinks}
 use Rattle.split.specs.Split.{Apart, Below}
 use Rattle.split.proofs.Nodes.{sets-append, nodes-length}
-use Rattle.rebuild.proofs.Spelled.{Spells, spells-end, free-length}
+use Rattle.tables.proofs.Spelled.{Spells, spells-end, free-length}
 
 -- the first words once root and first free node are stored
 front : (links : List ℕ) (root first n : ℕ) → 5 ≤ length links

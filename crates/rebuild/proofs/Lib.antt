@@ -1,4 +1,3 @@
-pub mod Spelled
 pub mod Laid
 pub mod Heads
 pub mod Shaped

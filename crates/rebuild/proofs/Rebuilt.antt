@@ -21,7 +21,7 @@ use Rattle.tables.proofs.Shapes.{chain-same, chain-range}
 use Rattle.tables.proofs.Counts.{heads}
 use Rattle.tables.proofs.Trees.{depth-root, treeShape, treeRooted, tree-of-sound}
 use Rattle.split.specs.Split.{Apart, Below}
-use Rattle.rebuild.proofs.Spelled.{Spells, spells-append, free-chain}
+use Rattle.tables.proofs.Spelled.{Spells, spells-append, free-chain}
 use Rattle.rebuild.proofs.Laid.{tree-end, laid-long, laid-width, laid-told, laid-root, laid-free, laid-count, laid-row, laid-nodes}
 use Rattle.rebuild.proofs.Heads.{Heads, heads-some, headsFrom-shape, headsFrom-none, chainIn, heads-apart, heads-chains, heads-cover, heads-few}
 use Rattle.rebuild.proofs.Shaped.{shapeOf, nodes-order, blocks-all, holds-shape, placed-shape}

@@ -22,7 +22,7 @@ use Rattle.split.specs.Split.{Apart, Below}
 use Rattle.split.proofs.Sums.{total-append}
 use Rattle.split.proofs.Sides.{side-member, side-has, sides-total}
 use Rattle.split.proofs.Nodes.{half, Sizes, nodes-step, nodes-length, apart-half, group-induction}
-use Rattle.rebuild.proofs.Spelled.{Spells, spells-append, node-spelled}
+use Rattle.tables.proofs.Spelled.{Spells, spells-append, node-spelled}
 use Rattle.rebuild.proofs.Heads.{Heads}
 
 -- the shape of the group g from node i on; ch gives each head's chain, m bounds the depth

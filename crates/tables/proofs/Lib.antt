@@ -15,3 +15,4 @@ pub mod Distinct
 pub mod Unique
 pub mod Holders
 pub mod Stored
+pub mod Spelled

@@ -3,7 +3,7 @@
 use native.Mathlib.Omega.{arith}
 use mathlib.Core.Path.{sym}
 use borrow.Author.Needs.{needs}
-use Rattle.rebuild.proofs.Spelled.{free-some, free-none}
+use Rattle.tables.proofs.Spelled.{free-some, free-none}
 use Rattle.rebuild.proofs.free.free_from.Statement.{statement}
 use Rattle.rebuild.proofs.free.free_from.Tie as tie
 
