@@ -1,21 +1,23 @@
 -- A search that no question refuses, on any tables: it lists matching blocks within its bounds, or it stops with 11. The walk starts
 -- from cleared marks and only marks matching blocks, one block of its budget each.
 -- Assumes nothing.
-use Prim.Native.Nat.{ℕ, zero, suc, _+_, _-_, _≤_, _<_}
+use Prim.Native.Nat.{ℕ, zero, _+_, _-_, _≤_, _<_}
 use native.Mathlib.Omega.{arith}
 use mathlib.Core.Path.{_≡_, refl, sym, _∙_, ap}
-use mathlib.Core.Logic.{_⊎_, inl, inr, ⊎-elim, _≢_}
+use mathlib.Core.Logic.{_⊎_, inl, inr, ⊎-elim}
 use mathlib.Core.Bool.{Bool, true, false}
-use mathlib.Core.List.{List, [], _∷_, _++_, List·Memᴰ, List·Memᴰ·not-nil}
+use mathlib.Core.List.{List, [], List·Memᴰ, List·Memᴰ·not-nil}
 use lib.Dec.{eqb}
 use lib.ListN.{length, getD, drop, replicate, length-append, length-replicate, length-drop, getD-replicate, List·getD-append}
 use lib.Seq.{ext-getD, getD-drop, drop-at}
-use borrow.Author.Tests.{eqb-true, eqb-false, ne-eqb}
-use Rattle.model.specs.Basics.{keep, upFrom}
+use borrow.Author.Tests.{eqb-false, ne-eqb}
+use Rattle.model.specs.Basics.{upFrom}
 use Rattle.model.specs.Tables.{widthOf, rootOf}
 use Rattle.model.specs.Ledger.{Report, bare}
-use Rattle.model.specs.Promises.{unsound, marksAfter, outputAfter, Matches, Listing, GivenUp}
-use Rattle.search.specs.Search.{pick, Budget, lent, isMarked, walkTwin, listed, cleared, listTwin, foundTwin}
+use Rattle.model.specs.Promises.{unsound, marksAfter, Matches, Listing, GivenUp}
+use Rattle.search.specs.Budget.{Budget, lent}
+use Rattle.search.specs.Marks.{isMarked, listed, cleared}
+use Rattle.search.specs.Search.{pick, walkTwin, listTwin, foundTwin}
 use Rattle.model.proofs.Keep.{keep-none}
 use Rattle.search.proofs.Keeps.{upFrom-in, kept-ascends}
 use Rattle.search.proofs.Marks.{Grown, grown-none, Went, walk-went}

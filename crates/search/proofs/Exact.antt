@@ -1,38 +1,40 @@
 -- A search of sound tables: 0, the ledger's matching blocks, and the compares and nodes of the plain tree. The walk of the tables'
 -- shape stays within what it is lent, and marks the chains' blocks that cover the query; every filed block is on a chain.
 -- Assumes nothing.
-use Prim.Native.Nat.{ℕ, zero, suc, _+_, _-_, _≤_, _<_}
+use Prim.Native.Nat.{ℕ, _+_, _-_, _≤_, _<_}
 use native.Mathlib.Decide.{ℕ-discrete}
 use native.Mathlib.Omega.{arith}
 use mathlib.Core.Path.{_≡_, refl, sym, _∙_, ap, subst}
 use mathlib.Core.Logic.{_⊎_, inl, inr, ⊎-elim, _≢_}
 use mathlib.Core.Bool.{Bool, true, false, not, _&&_}
-use mathlib.Core.List.{List, [], _∷_, _++_, List·Memᴰ, List·Memᴰ·head, List·Memᴰ·tail, List·Memᴰ·not-nil}
+use mathlib.Core.List.{List, [], _∷_, List·Memᴰ, List·Memᴰ·head, List·Memᴰ·tail, List·Memᴰ·not-nil}
 use lib.Dec.{eqb}
-use lib.ListN.{length, getD, set, length-set}
+use lib.ListN.{length, getD, length-set}
 use lib.Seq.{getD-set-same, getD-set-other}
-use borrow.Author.Tests.{eqb-true, eqb-false, eq-eqb, ne-eqb, not-true}
-use Rattle.model.specs.Basics.{keep, upFrom}
+use borrow.Author.Tests.{eqb-true, eqb-false, eq-eqb, ne-eqb}
+use Rattle.model.specs.Basics.{upFrom}
 use Rattle.model.specs.Signature.{coversb}
 use Rattle.model.specs.Tree.{Tree, nothing, compared, nodesRead}
 use Rattle.model.specs.Tables.{widthOf, rootOf, filedOf, signatureOf, treeOf}
 use Rattle.model.specs.Sound.{Shape, tip, fork, Rooted, none, some, HoldsRoot, PlacedRoot, Holds, Placed, blocks, blocksIn, Sound}
-use Rattle.model.specs.Ledger.{Report, bare, ledgerOf, matching}
-use Rattle.model.specs.Promises.{unsound, marksAfter, outputAfter, searchReport}
+use Rattle.model.specs.Ledger.{Report, ledgerOf, matching}
+use Rattle.model.specs.Promises.{marksAfter, outputAfter, searchReport}
 use Rattle.model.proofs.Keep.{keep-cong}
 use Rattle.model.proofs.Pigeon.{Distinct}
 use Rattle.tables.proofs.Shapes.{blocks-range, blocks-placed}
 use Rattle.tables.proofs.Trees.{treeShape, treeRooted, tree-of-sound, depth-root}
-use Rattle.search.specs.Search.{pick, Budget, lent, isMarked, mark, walkTwin, listed, cleared, listTwin, foundTwin}
+use Rattle.search.specs.Budget.{Budget, lent}
+use Rattle.search.specs.Marks.{isMarked, mark, listed, cleared}
+use Rattle.search.specs.Search.{walkTwin, foundTwin}
 use Rattle.search.proofs.Keeps.{upFrom-in}
 use Rattle.search.proofs.Steps.{found-empty, found-list}
-use Rattle.search.proofs.Marks.{pick-false, Went}
+use Rattle.search.proofs.Marks.{Went}
 use Rattle.search.proofs.Listed.{marks-are, tested, matching-kept}
 use Rattle.search.proofs.Any.{cleared-at, cleared-long, cleared-drop, listed-none, grown-marks, grown-found, walk-from-cleared}
 use Rattle.search.proofs.Returns.{report-same}
 use Rattle.search.proofs.Shaped.{markAll, Unmarked, hits, reads, compares, walk-marks}
 use Rattle.search.proofs.Hits.{hits-blocks, reads-few, compares-few, few-heads, hits-distinct, few-hits, hits-cover, cover-hits}
-use Rattle.tables.proofs.Counts.{heads, heads-count}
+use Rattle.tables.proofs.Counts.{heads-count}
 
 -- two tests that imply each other
 bool-same : (a b : Bool) → (a ≡ true → b ≡ true) → (b ≡ true → a ≡ true) → a ≡ b

@@ -1,16 +1,16 @@
 -- The blocks that a search of a sound shape marks: those of its chains that cover the query, none twice, and no more than B. A block
 -- left of a node whose position is set in the query has a 0 there, so it does not cover: going right only loses nothing.
 -- Assumes nothing.
-use Prim.Native.Nat.{ℕ, zero, suc, _+_, _-_, _≤_, _<_}
+use Prim.Native.Nat.{ℕ, suc, _+_, _≤_}
 use native.Mathlib.Omega.{arith}
 use mathlib.Core.Path.{_≡_, refl, sym, _∙_, ap, subst}
 use mathlib.Core.Logic.{_⊎_, inl, inr, ⊎-elim}
 use mathlib.Core.Bool.{Bool, true, false}
-use mathlib.Core.List.{List, [], _∷_, _++_, List·Memᴰ, List·Memᴰ·cases-cons, List·Memᴰ·not-nil, List·Memᴰ·append-cases, Memᴰ·append-left, Memᴰ·append-right}
+use mathlib.Core.List.{List, [], _∷_, _++_, List·Memᴰ, List·Memᴰ·not-nil, List·Memᴰ·append-cases, Memᴰ·append-left, Memᴰ·append-right}
 use lib.ListN.{length, length-append}
 use Rattle.model.specs.Signature.{bitAt, coversb}
 use Rattle.model.specs.Tree.{Edge, edge, compared, nodesRead}
-use Rattle.model.specs.Tables.{filedOf, leftOf, rightOf, signatureOf}
+use Rattle.model.specs.Tables.{leftOf, rightOf, signatureOf}
 use Rattle.model.specs.Sound.{Shape, tip, fork, Chain, Holds, nodes, blocks, Placed}
 use Rattle.model.proofs.Bits.{bit-cases}
 use Rattle.model.proofs.Pigeon.{Distinct, distinct-fits, distinct-append, downFrom, downFrom-length, downFrom-has}

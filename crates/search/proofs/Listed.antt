@@ -6,7 +6,7 @@ use native.Mathlib.Omega.{arith}
 use mathlib.Core.Path.{_≡_, refl, sym, _∙_, ap, ap₂}
 use mathlib.Core.Logic.{_⊎_, inl, inr}
 use mathlib.Core.Bool.{Bool, true, false, not, _&&_}
-use mathlib.Core.List.{List, [], _∷_, _++_, List·Memᴰ}
+use mathlib.Core.List.{List, _∷_, _++_, List·Memᴰ}
 use lib.Dec.{eqb}
 use lib.ListN.{length, getD, take, drop, take-append-drop}
 use lib.Seq.{ext-getD, getD-take, length-take-le}
@@ -14,11 +14,11 @@ use borrow.Author.Tests.{eqb-true, eq-eqb}
 use Rattle.model.specs.Basics.{has, keep, upFrom}
 use Rattle.model.specs.Signature.{coversb}
 use Rattle.model.specs.Tables.{widthOf, filedOf, signatureOf}
-use Rattle.model.specs.Ledger.{Entry, unfiled, pair, entryIn, entriesFrom, matchingFrom, matching, ledgerOf}
+use Rattle.model.specs.Ledger.{entryIn, entriesFrom, matchingFrom, matching, ledgerOf}
 use Rattle.model.specs.Promises.{marksFrom, marksAfter}
 use Rattle.model.proofs.Members.{in-has, in-not}
 use Rattle.model.proofs.Keep.{keep-yes, keep-no, keep-in, in-keep, upFrom-has}
-use Rattle.search.specs.Search.{isMarked, listed}
+use Rattle.search.specs.Marks.{isMarked, listed}
 use Rattle.search.proofs.Keeps.{upFrom-in}
 
 -- block b of the first B is marked

@@ -5,14 +5,15 @@ use native.Mathlib.Decide.{ℕ-discrete}
 use native.Mathlib.Numerals.{add-one}
 use native.Mathlib.Omega.{arith}
 use mathlib.Core.Path.{_≡_, refl, sym, _∙_, ap, ap₂}
-use mathlib.Core.Bool.{Bool, true, false}
+use mathlib.Core.Bool.{true, false}
 use mathlib.Core.List.{List, [], _∷_, _++_, append-nil, append-assoc}
 use lib.Bits.{bitOr, or-add-and, and-le-l, and-le-r}
 use lib.ListN.{length, getD, set, take, drop, length-append, length-set, take-append-drop}
 use lib.Seq.{getD-take, getD-drop, take-set-le, take-suc-set, drop-set-lt}
 use borrow.Author.Tests.{ne-eqb}
 use Rattle.model.specs.Promises.{outputAfter}
-use Rattle.search.specs.Search.{pick, isMarked, listed, Lists, Listing}
+use Rattle.search.specs.Marks.{isMarked, listed, Lists, ListedPart}
+use Rattle.search.specs.Search.{pick}
 use Rattle.search.proofs.Keeps.{keep-empty, keep-last}
 
 -- an OR of 0 is of zeros
@@ -62,13 +63,13 @@ module _ (m : List ℕ) where
   lists-none out = record { count = sym (ap length (keep-empty (isMarked m))); front = sym (keep-empty (isMarked m)) }
 
   module _ (found from n₀ : ℕ) (out₀ : List ℕ) where
-    pub listing-none : Listing m found from n₀ out₀ from n₀ out₀
-    listing-none = record { long = refl; beyond = refl; lists = λ B h e l. l }
+    pub part-none : ListedPart m found from n₀ out₀ from n₀ out₀
+    part-none = record { long = refl; beyond = refl; lists = λ B h e l. l }
 
     -- the next block, by whether it is marked
-    module _ (b n : ℕ) (out : List ℕ) (L : Listing m found from n₀ out₀ b n out) (lt : n < found) (len : n < length out) where
-      pub listing-yes : isMarked m (b + 1) ≡ true → Listing m found from n₀ out₀ (b + 1) (n + 1) (set out n (b + 1))
-      listing-yes e = record {
+    module _ (b n : ℕ) (out : List ℕ) (L : ListedPart m found from n₀ out₀ b n out) (lt : n < found) (len : n < length out) where
+      pub part-yes : isMarked m (b + 1) ≡ true → ListedPart m found from n₀ out₀ (b + 1) (n + 1) (set out n (b + 1))
+      part-yes e = record {
         long = length-set out n (b + 1) ∙ L .long;
         beyond = drop-set-lt found out n (b + 1) lt ∙ L .beyond;
         lists = λ B h f l.
@@ -80,8 +81,8 @@ module _ (m : List ℕ) where
             };
       }
 
-      pub listing-no : isMarked m (b + 1) ≡ false → Listing m found from n₀ out₀ (b + 1) n (set out n (b + 1))
-      listing-no e = record {
+      pub part-no : isMarked m (b + 1) ≡ false → ListedPart m found from n₀ out₀ (b + 1) n (set out n (b + 1))
+      part-no e = record {
         long = length-set out n (b + 1) ∙ L .long;
         beyond = drop-set-lt found out n (b + 1) lt ∙ L .beyond;
         lists = λ B h f l.
@@ -90,8 +91,8 @@ module _ (m : List ℕ) where
       }
 
     -- all are listed
-    pub listing-full : (b to n : ℕ) (out : List ℕ) → Listing m found from n₀ out₀ b n out → b ≤ to → found ≤ n → Listing m found from n₀ out₀ to n out
-    listing-full b to n out L le full = record {
+    pub part-full : (b to n : ℕ) (out : List ℕ) → ListedPart m found from n₀ out₀ b n out → b ≤ to → found ≤ n → ListedPart m found from n₀ out₀ to n out
+    part-full b to n out L le full = record {
       long = L .long;
       beyond = L .beyond;
       lists = λ B h f l.
@@ -100,23 +101,23 @@ module _ (m : List ℕ) where
           record { count = rw e (r .count); front = rw e (r .front) };
     }
 
-    pub listing-run : ((i : ℕ) → i < 64 → isMarked m (from + i + 1) ≡ false) → Listing m found from n₀ out₀ (from + 64) n₀ out₀
-    listing-run h = record {
+    pub part-run : ((i : ℕ) → i < 64 → isMarked m (from + i + 1) ≡ false) → ListedPart m found from n₀ out₀ (from + 64) n₀ out₀
+    part-run h = record {
       long = refl;
       beyond = refl;
       lists = λ B k f l. let e = listed-run from 64 h in record { count = rw e (l .count); front = rw e (l .front) };
     }
 
-    pub listing-then : (b n : ℕ) (out : List ℕ) (to r : ℕ) (out′ : List ℕ) → b ≤ to → Listing m found from n₀ out₀ b n out → Listing m found b n out to r out′ → Listing m found from n₀ out₀ to r out′
-    listing-then b n out to r out′ le K L = record {
+    pub part-then : (b n : ℕ) (out : List ℕ) (to r : ℕ) (out′ : List ℕ) → b ≤ to → ListedPart m found from n₀ out₀ b n out → ListedPart m found b n out to r out′ → ListedPart m found from n₀ out₀ to r out′
+    part-then b n out to r out′ le K L = record {
       long = L .long ∙ K .long;
       beyond = L .beyond ∙ K .beyond;
       lists = λ B h f l. L .lists B h f (K .lists B (omega arith) f l);
     }
 
   -- the whole listing
-  pub listing-all : (B found : ℕ) (out : List ℕ) (r : ℕ) (out′ : List ℕ) → found ≡ length (listed B m) → Listing m found 0 0 out B r out′ → out′ ≡ outputAfter (listed B m) out
-  listing-all B found out r out′ f L =
+  pub list-whole : (B found : ℕ) (out : List ℕ) (r : ℕ) (out′ : List ℕ) → found ≡ length (listed B m) → ListedPart m found 0 0 out B r out′ → out′ ≡ outputAfter (listed B m) out
+  list-whole B found out r out′ f L =
       let l = L .lists B (omega arith) f (lists-none out) in
       let d : r ≡ found = l .count ∙ sym f in
       sym (take-append-drop found out′) ∙ ap₂ (λ (x y : List ℕ). x ++ y) (rw d at (l .front)) (L .beyond ∙ ap (λ (k : ℕ). drop k out) f)

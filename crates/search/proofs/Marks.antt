@@ -4,18 +4,20 @@
 use Prim.Native.Nat.{ℕ, zero, suc, _+_, _-_, _≤_, _<_}
 use native.Mathlib.Decide.{ℕ-discrete}
 use native.Mathlib.Omega.{arith}
-use mathlib.Core.Path.{_≡_, refl, sym, _∙_, ap}
+use mathlib.Core.Path.{_≡_, refl, sym, _∙_}
 use mathlib.Core.Logic.{_⊎_, inl, inr, ⊎-elim, _≢_}
 use mathlib.Core.Bool.{Bool, true, false}
-use mathlib.Core.List.{List, [], _∷_, _++_}
+use mathlib.Core.List.{List, [], _∷_}
 use lib.Dec.{eqb, leb, ltb}
-use lib.ListN.{length, getD, set, length-set, length-append}
+use lib.ListN.{length, getD, length-set, length-append}
 use lib.Seq.{getD-set-same, getD-set-other}
-use borrow.Author.Tests.{eqb-true, eqb-false, eq-eqb, ne-eqb, ltb-false}
+use borrow.Author.Tests.{eqb-false, eq-eqb, ltb-false}
 use Rattle.model.specs.Signature.{bitAt, coversb}
 use Rattle.model.specs.Tables.{widthOf, nextOf, filedOf, leftOf, rightOf, signatureOf}
 use Rattle.model.specs.Promises.{Matches}
-use Rattle.search.specs.Search.{pick, Budget, unfit, isMarked, mark, mayMark, chainStep, chainTwin, leafTwin, testedAt, sidesTwin, nodeTwin, walkTwin, listed}
+use Rattle.search.specs.Budget.{Budget, unfit}
+use Rattle.search.specs.Marks.{isMarked, mark, listed}
+use Rattle.search.specs.Search.{pick, mayMark, chainStep, chainTwin, leafTwin, testedAt, sidesTwin, nodeTwin, walkTwin}
 use Rattle.search.proofs.Keeps.{keep-empty, keep-last}
 
 -- a pick that gives true where its first case is false

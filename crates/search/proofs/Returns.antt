@@ -1,24 +1,24 @@
 -- What each return of the code gives, from what its tests and calls said: a law to a return, over the laws of one step.
 -- Assumes nothing.
-use Prim.Native.Nat.{ℕ, zero, suc, _+_, _-_, _*_, _^_, _≤_, _<_}
+use Prim.Native.Nat.{ℕ, zero, suc, _-_, _^_, _≤_, _<_}
 use native.Mathlib.Decide.{decLt}
 use native.Mathlib.Omega.{arith}
 use mathlib.Core.Path.{_≡_, refl, sym, _∙_, ap}
-use mathlib.Core.Logic.{_⊎_, inl, inr}
 use mathlib.Core.Bool.{Bool, true, false}
-use mathlib.Core.List.{List, [], _∷_, _++_}
+use mathlib.Core.List.{List, []}
 use lib.Bits.{bitAnd}
-use lib.Dec.{eqb, leb, ltb}
+use lib.Dec.{eqb}
 use lib.ListN.{length, length-set}
 use borrow.Author.Tests.{eq-eqb, ne-eqb, le-leb, lt-leb, lt-ltb, le-ltb}
 use Rattle.model.specs.Signature.{bitAt, coversb}
 use Rattle.model.specs.Tables.{widthOf, rootOf, nextOf, positionOf, leftOf, rightOf, signatureOf}
 use Rattle.model.specs.Ledger.{Report, bare}
 use Rattle.model.specs.Promises.{unsound, outputAfter}
-use Rattle.model.proofs.Bits.{bit-cases}
 use Rattle.signature.proofs.Covering.{and-test}
-use Rattle.tables.specs.Walk.{NodeFits, EdgeOf}
-use Rattle.search.specs.Search.{pick, Budget, unfit, lent, isMarked, mark, mayMark, chainTwin, leafTwin, testedAt, walkTwin, listed, cleared, foundTwin}
+use Rattle.tables.specs.Walk.{EdgeOf}
+use Rattle.search.specs.Budget.{Budget, unfit, lent}
+use Rattle.search.specs.Marks.{mark, listed, cleared}
+use Rattle.search.specs.Search.{mayMark, chainTwin, leafTwin, testedAt, walkTwin, foundTwin}
 use Rattle.search.proofs.Steps.{chain-mark, leaf-passed, leaf-chain, walk-no-node, walk-right, walk-both, found-empty, found-unfit, found-list}
 use Rattle.search.proofs.Marks.{Went}
 use Rattle.search.proofs.Any.{walk-from-cleared, grown-found}

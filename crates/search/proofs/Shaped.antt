@@ -1,22 +1,24 @@
 -- The walk of a shape that the tables spell: it marks the blocks of the leaves that it compares and that cover the query, and it uses
 -- up the plain tree's compares and nodes. By induction on the shape; each node hands its budget to the left side and on to the right.
 -- Assumes nothing.
-use Prim.Native.Nat.{ℕ, zero, suc, _+_, _-_, _*_, _≤_, _<_, max}
+use Prim.Native.Nat.{ℕ, _+_, _-_, _≤_, _<_}
 use native.Mathlib.Omega.{arith}
 use mathlib.Core.Path.{_≡_, refl, sym, _∙_, ap, subst}
 use mathlib.Core.Logic.{_⊎_, inl, inr}
 use mathlib.Core.Bool.{Bool, true, false}
 use mathlib.Core.List.{List, [], _∷_, _++_, List·Memᴰ, List·Memᴰ·head, List·Memᴰ·tail}
-use lib.Dec.{eqb, leb, ltb}
-use lib.ListN.{length, getD, length-append}
-use borrow.Author.Tests.{eq-eqb, ne-eqb, lt-ltb, le-ltb, le-leb, lt-leb}
+use lib.Dec.{eqb}
+use lib.ListN.{length, length-append}
+use borrow.Author.Tests.{eq-eqb, ne-eqb, le-ltb, lt-leb}
 use Rattle.model.specs.Signature.{bitAt, coversb}
-use Rattle.model.specs.Tree.{Tree, leaf, node, goesLeft, Edge, edge, compared, nodesRead}
+use Rattle.model.specs.Tree.{goesLeft, Edge, edge, compared, nodesRead}
 use Rattle.model.specs.Tables.{widthOf, nextOf, filedOf, positionOf, leftOf, rightOf, signatureOf}
 use Rattle.model.specs.Sound.{Shape, tip, fork, Chain, Holds, Placed}
 use Rattle.model.proofs.Bits.{bit-cases}
 use Rattle.tables.proofs.Trees.{depth, treeShape}
-use Rattle.search.specs.Search.{pick, Budget, isMarked, mark, mayMark, chainTwin, leafTwin, testedAt, walkTwin}
+use Rattle.search.specs.Budget.{Budget}
+use Rattle.search.specs.Marks.{isMarked, mark}
+use Rattle.search.specs.Search.{pick, mayMark, chainTwin, leafTwin, testedAt, walkTwin}
 use Rattle.search.proofs.Steps.{chain-end, chain-mark, leaf-passed, leaf-chain, walk-leaf, walk-right, walk-both}
 
 -- blocks marked in turn

@@ -5,15 +5,17 @@ use native.Mathlib.Nat.{div-div-eq-div-mul}
 use native.Mathlib.Omega.{arith}
 use mathlib.Core.Path.{_≡_, refl, sym, _∙_, ap}
 use mathlib.Core.Bool.{Bool, true, false}
-use mathlib.Core.List.{List, [], _∷_}
-use lib.Dec.{eqb, leb, ltb}
+use mathlib.Core.List.{List}
+use lib.Dec.{eqb}
 use lib.ListN.{length}
-use borrow.Author.Tests.{eq-eqb, ne-eqb, lt-ltb, le-ltb, le-leb, lt-leb}
+use borrow.Author.Tests.{eq-eqb, ne-eqb, le-leb, lt-leb}
 use Rattle.model.specs.Signature.{bitAt, coversb}
-use Rattle.model.specs.Tables.{widthOf, rootOf, nextOf, positionOf, leftOf, rightOf, signatureOf}
+use Rattle.model.specs.Tables.{widthOf, rootOf, nextOf, leftOf, rightOf, signatureOf}
 use Rattle.model.specs.Ledger.{bare}
 use Rattle.model.specs.Promises.{unsound}
-use Rattle.search.specs.Search.{pick, Budget, unfit, lent, budgetOf, mark, mayMark, chainStep, chainTwin, leafTwin, testedAt, sidesTwin, nodeTwin, walkTwin, cleared, listTwin, foundTwin}
+use Rattle.search.specs.Budget.{Budget, unfit, lent, budgetOf}
+use Rattle.search.specs.Marks.{mark, cleared}
+use Rattle.search.specs.Search.{mayMark, chainTwin, leafTwin, testedAt, sidesTwin, walkTwin, listTwin, foundTwin}
 
 -- quotient and remainder by 65,536, from what they are to be
 parts : (x d n : ℕ) → x ≡ n + 65536 * d → n < 65536 → (x / 65536 ≡ d) × (x % 65536 ≡ n)

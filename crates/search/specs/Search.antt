@@ -1,40 +1,24 @@
 -- The walk of a search as a function of the tables' lists, and what it leaves: what the code does on any tables, step for step.
 -- A search is lent as many nodes, compares and blocks as sound tables can need. It counts them down, and stops where they run out.
 -- Assumes nothing.
-use Prim.Native.Nat.{ℕ, zero, suc, _+_, _-_, _*_, _/_, _%_, _^_, _≤_, _<_}
+use Prim.Native.Nat.{ℕ, zero, suc, _-_, _^_, _≤_, _<_}
 use mathlib.Core.Path.{_≡_}
 use mathlib.Core.Bool.{Bool, true, false}
-use mathlib.Core.List.{List, [], _∷_, _++_}
+use mathlib.Core.List.{List}
 use lib.Dec.{eqb, leb, ltb}
-use lib.ListN.{length, getD, set, take, drop, replicate}
+use lib.ListN.{length}
 use Rattle.model.specs.Limits.{widest, mostBlocks}
-use Rattle.model.specs.Basics.{keep, upFrom}
 use Rattle.model.specs.Signature.{bitAt, coversb}
 use Rattle.model.specs.Tables.{linksOf, widthOf, rootOf, nextOf, filedOf, positionOf, leftOf, rightOf, signatureOf}
 use Rattle.model.specs.Ledger.{Report, bare}
 use Rattle.model.specs.Promises.{unsound, outputAfter}
+use Rattle.search.specs.Budget.{Budget, unfit, lent}
+use Rattle.search.specs.Marks.{isMarked, mark, listed, cleared}
 
 -- the first of two where the test holds, else the second
 abbrev pub pick {ℓ} : {A : Type ℓ} → Bool → A → A → A
 pick true a b = a
 pick false a b = b
-
--- What a search may still do: read one node less than `nodes`, compare, and mark blocks. No nodes at all: the tables are unfit.
-pub record Budget : Type 0 where
-  pub nodes : ℕ
-  pub compares : ℕ
-  pub blocks : ℕ
-
-abbrev pub unfit : Budget
-unfit = record { nodes = 0; compares = 0; blocks = 0 }
-
--- what a search of B blocks is lent: B - 1 nodes, B compares, B blocks
-abbrev pub lent : ℕ → Budget
-lent B = record { nodes = B; compares = B; blocks = B }
-
--- a budget as one number, 16 bits to a count
-abbrev pub budgetOf : ℕ → Budget
-budgetOf s = record { nodes = s % 65536; compares = s / 65536 % 65536; blocks = s / 4294967296 }
 
 -- what the walk asks of the slices and the query, besides fitting words
 pub record Sized (sigs links marks : List ℕ) (q : ℕ) : Type 0 where
@@ -43,14 +27,6 @@ pub record Sized (sigs links marks : List ℕ) (q : ℕ) : Type 0 where
   pub room : length sigs ≤ length marks
   pub wide : widthOf links ≤ widest
   pub low : q < 2 ^ widthOf links
-
--- is block b marked?
-abbrev pub isMarked : List ℕ → ℕ → Bool
-isMarked marks b = eqb (getD marks (b - 1) 0) 1
-
--- the marks after block b is marked
-abbrev pub mark : List ℕ → ℕ → List ℕ
-mark marks b = set marks (b - 1) 1
 
 -- block b may be marked: it is 1 to B, filed, not yet marked, and its signature covers q
 unfoldable pub mayMark : List ℕ → List ℕ → ℕ → ℕ → List ℕ → Bool
@@ -104,14 +80,6 @@ walkTwin zero sigs links q r l m = pick (leb r (length sigs)) (leafTwin sigs lin
 walkTwin (suc u) sigs links q r l m =
     pick (leb r (length sigs)) (leafTwin sigs links q r l m) (nodeTwin (walkTwin u sigs links q) links (length sigs) q (r - length sigs) l m)
 
--- the marked blocks of the first B, ascending
-abbrev pub listed : ℕ → List ℕ → List ℕ
-listed B m = keep (isMarked m) (upFrom B 1)
-
--- the first B marks 0
-abbrev pub cleared : ℕ → List ℕ → List ℕ
-cleared B m = replicate B 0 ++ drop B m
-
 -- what a search of B blocks leaves after a walk that left w: the report, the marks and the output
 abbrev pub listTwin : ℕ → Budget × List ℕ → List ℕ → Report × List ℕ × List ℕ
 listTwin B w output = (
@@ -126,15 +94,3 @@ foundTwin sigs links q marks output =
     let z : List ℕ = cleared (length sigs) marks in
     let w : Budget × List ℕ = walkTwin (widthOf links) sigs links q (rootOf links) (lent (length sigs)) z in
     pick (eqb (rootOf links) 0) (bare 0, z, output) (pick (eqb (w .0 .nodes) 0) (bare unsound, w .1, output) (listTwin (length sigs) w output))
-
--- the first n words of the output are the marked ones of the first b blocks
-pub record Lists (marks : List ℕ) (b n : ℕ) (output : List ℕ) : Type 0 where
-  pub count : n ≡ length (listed b marks)
-  pub front : take n output ≡ listed b marks
-
--- A part of the listing, where `found` blocks are marked in all: it takes a list of the first `from` blocks, n of them marked, to one
--- of the first `to`, r of them marked, and leaves the words beyond `found`.
-pub record Listing (marks : List ℕ) (found from n : ℕ) (output : List ℕ) (to r : ℕ) (output′ : List ℕ) : Type 0 where
-  pub long : length output′ ≡ length output
-  pub beyond : drop found output′ ≡ drop found output
-  pub lists : (B : ℕ) → to ≤ B → found ≡ length (listed B marks) → Lists marks from n output → Lists marks to r output′

@@ -2,7 +2,7 @@
 // register, and counting down needs no sums. The nodes are one more than may be read: a number without nodes says that the tables are unfit.
 ghost use mathlib.Core.Path.{_≡_};
 ghost use Prim.Native.Nat.{_-_, _≤_, _<_};
-ghost use Rattle.search.specs.Search.{lent, budgetOf};
+ghost use Rattle.search.specs.Budget.{lent, budgetOf};
 
 const NODE: u64 = 1;
 

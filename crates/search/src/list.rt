@@ -1,30 +1,11 @@
 // The list of the marked blocks, ascending, at the front of the output. Runs of 64 blocks without a mark are passed over, and the
 // listing stops at the last marked block: it writes no word beyond the list.
 ghost use mathlib.Core.Path.{_≡_};
-ghost use mathlib.Core.Bool.{true, false};
-ghost use Prim.Native.Nat.{ℕ, _+_, _≤_, _<_};
+ghost use Prim.Native.Nat.{_+_, _≤_};
 ghost use lib.ListN.{length};
 ghost use Rattle.model.specs.Promises.{outputAfter};
-ghost use Rattle.search.specs.Search.{isMarked, listed, Listing};
+ghost use Rattle.search.specs.Marks.{listed, ListedPart};
 use crate::marking;
-
-// how many blocks are looked at together
-const RUN: usize = 64;
-
-// Is none of the 64 blocks after the first `from` marked?
-pub fn none_marked(marks: &[u8], from: usize) -> bool
-    requires { ⌜ (from + 64 ≤ length (now marks)) × (from ≤ 65535) ⌝ }
-    ensures { λ r. ⌜ (r ≡ true → (i : ℕ) → i < 64 → isMarked (now (marks .entry)) (from + i + 1) ≡ false) ⌝ }
-{
-    let run = &marks[from..from + RUN];
-    let mut any: u8 = 0;
-    let mut i: usize = 0;
-    while i < RUN {
-        any = any | run[i];
-        i += 1;
-    }
-    any == 0
-}
 
 // Lists the marked ones of the blocks after the first `from`, up to block `to`; n are listed already. A word is written before it is
 // known whether its block is marked: while fewer than `found` are listed, a marked block is still to come and takes its place.
@@ -37,7 +18,7 @@ pub fn list_blocks(
     found: usize,
 ) -> usize
     requires { ⌜ (from ≤ to) × (to ≤ 65535) × (to ≤ length (now marks)) × (found ≤ length (now output)) ⌝ }
-    ensures { λ r. ⌜ Listing (now (marks .entry)) found from listed (now (output .entry)) to r (now (output .exit)) ⌝ }
+    ensures { λ r. ⌜ ListedPart (now (marks .entry)) found from listed (now (output .entry)) to r (now (output .exit)) ⌝ }
 {
     let mut n = listed;
     let mut block = from;
@@ -57,12 +38,12 @@ pub fn list_blocks(
 // The same of 64 blocks, where none of them is looked at by itself if none is marked.
 pub fn list_run(marks: &[u8], output: &mut [u32], from: usize, listed: usize, found: usize) -> usize
     requires { ⌜ (from + 64 ≤ 65535) × (from + 64 ≤ length (now marks)) × (found ≤ length (now output)) ⌝ }
-    ensures { λ r. ⌜ Listing (now (marks .entry)) found from listed (now (output .entry)) (from + 64) r (now (output .exit)) ⌝ }
+    ensures { λ r. ⌜ ListedPart (now (marks .entry)) found from listed (now (output .entry)) (from + 64) r (now (output .exit)) ⌝ }
 {
-    if none_marked(marks, from) {
+    if marking::none_marked(marks, from) {
         return listed;
     }
-    list_blocks(marks, output, from, from + RUN, listed, found)
+    list_blocks(marks, output, from, from + marking::RUN, listed, found)
 }
 
 // Lists all marked blocks, of which there are `found`.
@@ -72,9 +53,9 @@ pub fn list_marked(marks: &[u8], output: &mut [u32], blocks: usize, found: usize
 {
     let mut n: usize = 0;
     let mut from: usize = 0;
-    while from + RUN <= blocks {
+    while from + marking::RUN <= blocks {
         n = list_run(marks, output, from, n, found);
-        from += RUN;
+        from += marking::RUN;
     }
     list_blocks(marks, output, from, blocks, n, found);
 }

@@ -1,8 +1,12 @@
 // The marks: one byte to a block, at index block - 1. All else reads and writes them through these functions.
 ghost use mathlib.Core.Path.{_≡_};
-ghost use Prim.Native.Nat.{_≤_, _<_};
+ghost use mathlib.Core.Bool.{true, false};
+ghost use Prim.Native.Nat.{ℕ, _+_, _≤_, _<_};
 ghost use lib.ListN.{length};
-ghost use Rattle.search.specs.Search.{isMarked, mark, cleared};
+ghost use Rattle.search.specs.Marks.{isMarked, mark, cleared};
+
+// how many blocks are looked at together
+pub const RUN: usize = 64;
 
 // Is the block marked?
 pub fn is_marked(marks: &[u8], block: usize) -> bool
@@ -30,4 +34,19 @@ pub fn clear_marks(marks: &mut [u8], blocks: usize)
         marks[i] = 0;
         i += 1;
     }
+}
+
+// Is none of the 64 blocks after the first `from` marked?
+pub fn none_marked(marks: &[u8], from: usize) -> bool
+    requires { ⌜ (from + 64 ≤ length (now marks)) × (from ≤ 65535) ⌝ }
+    ensures { λ r. ⌜ (r ≡ true → (i : ℕ) → i < 64 → isMarked (now (marks .entry)) (from + i + 1) ≡ false) ⌝ }
+{
+    let run = &marks[from..from + RUN];
+    let mut any: u8 = 0;
+    let mut i: usize = 0;
+    while i < RUN {
+        any = any | run[i];
+        i += 1;
+    }
+    any == 0
 }

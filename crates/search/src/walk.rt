@@ -3,7 +3,8 @@
 ghost use mathlib.Core.Path.{_≡_};
 ghost use Prim.Native.Nat.{_≤_};
 ghost use lib.ListN.{length};
-ghost use Rattle.search.specs.Search.{budgetOf, Sized, mayMark, chainTwin, leafTwin, walkTwin};
+ghost use Rattle.search.specs.Budget.{budgetOf};
+ghost use Rattle.search.specs.Search.{Sized, mayMark, chainTwin, leafTwin, walkTwin};
 use crate::budget;
 use crate::marking;
 
@@ -48,9 +49,10 @@ pub fn mark_chain(
         if !may_mark(signatures, links, marks, query, block) {
             return budget::UNFIT;
         }
+        let next = tables::wide(tables::rows::next_of(links, block));
         marking::set_mark(marks, block);
         rest = budget::take_block(rest);
-        block = tables::wide(tables::rows::next_of(links, block));
+        block = next;
     }
     rest
 }

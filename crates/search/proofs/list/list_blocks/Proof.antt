@@ -1,29 +1,28 @@
 -- `search::list::list_blocks` meets its contract. The invariant: the output lists the blocks passed.
 -- Assumes nothing.
 use borrow.Author.Needs.{needs}
-use mathlib.Core.Path.{_≡_, refl, sym, _∙_}
-use Prim.Native.Nat.{ℕ, _+_, _-_, _≤_, _<_}
-use lib.ListN.{length}
+use mathlib.Core.Path.{_≡_, sym, _∙_}
+use Prim.Native.Nat.{_-_, _≤_}
 use native.Mathlib.Omega.{arith}
-use Rattle.search.specs.Search.{Listing}
-use Rattle.search.proofs.Listings.{listing-none, listing-yes, listing-no, listing-full}
+use Rattle.search.specs.Marks.{ListedPart}
+use Rattle.search.proofs.Listings.{part-none, part-yes, part-no, part-full}
 use Rattle.search.proofs.list.list_blocks.Statement.{statement}
 use Rattle.search.proofs.list.list_blocks.Tie as tie
 
 abbrev Inv-loop : tie.InvT-loop
-Inv-loop marks output₀ from to listed found n₀ block₀ output n block = (from ≤ block) × (block ≤ to) × Listing marks found from listed output₀ block n output
+Inv-loop marks output₀ from to listed found n₀ block₀ output n block = (from ≤ block) × (block ≤ to) × ListedPart marks found from listed output₀ block n output
 
 abbrev μ-loop : tie.MeasureT-loop
 μ-loop marks output₀ from to listed found n₀ block₀ output n block = to - block
 
 loop-holds : tie.Need-loop-holds Inv-loop μ-loop
-loop-holds c = (search needs, search needs, listing-none _ _ _ _ _)
+loop-holds c = (search needs, search needs, part-none _ _ _ _ _)
 
 same-length : tie.Need-same-length Inv-loop μ-loop
 same-length c = c .before .before .loop .inv .2 .long
 
 returns : tie.Need-returns Inv-loop μ-loop
-returns c = listing-full _ _ _ _ _ _ _ _ _ (c .before .before .loop .inv .2) (c .before .before .loop .inv .1) (c .if1 .taken)
+returns c = part-full _ _ _ _ _ _ _ _ _ (c .before .before .loop .inv .2) (c .before .before .loop .inv .1) (c .if1 .taken)
 
 add-block : tie.Need-add-block Inv-loop μ-loop
 add-block c = search needs
@@ -47,13 +46,13 @@ loop-less : tie.Need-loop-less Inv-loop μ-loop
 loop-less c = search needs
 
 loop-again : tie.Need-loop-again Inv-loop μ-loop
-loop-again c = (omega arith, omega arith, listing-yes _ _ _ _ _ _ _ _ (c .before .before .before .before .loop .inv .2) (omega (arith, c .before .before .if1 .left)) (omega (arith, c .before .before .if1 .left, c .before .before .before .before .loop .inv .2 .long, c .before .before .before .before .before .before .before .pre)) (sym (c .before .is-marked .ensures) ∙ c .if2 .taken))
+loop-again c = (omega arith, omega arith, part-yes _ _ _ _ _ _ _ _ (c .before .before .before .before .loop .inv .2) (omega (arith, c .before .before .if1 .left)) (omega (arith, c .before .before .if1 .left, c .before .before .before .before .loop .inv .2 .long, c .before .before .before .before .before .before .before .pre)) (sym (c .before .is-marked .ensures) ∙ c .if2 .taken))
 
 loop-less-2 : tie.Need-loop-less-2 Inv-loop μ-loop
 loop-less-2 c = search needs
 
 loop-again-2 : tie.Need-loop-again-2 Inv-loop μ-loop
-loop-again-2 c = (omega arith, omega arith, listing-no _ _ _ _ _ _ _ _ (c .before .before .before .before .loop .inv .2) (omega (arith, c .before .before .if1 .left)) (omega (arith, c .before .before .if1 .left, c .before .before .before .before .loop .inv .2 .long, c .before .before .before .before .before .before .before .pre)) (sym (c .before .is-marked .ensures) ∙ c .if2 .left))
+loop-again-2 c = (omega arith, omega arith, part-no _ _ _ _ _ _ _ _ (c .before .before .before .before .loop .inv .2) (omega (arith, c .before .before .if1 .left)) (omega (arith, c .before .before .if1 .left, c .before .before .before .before .loop .inv .2 .long, c .before .before .before .before .before .before .before .pre)) (sym (c .before .is-marked .ensures) ∙ c .if2 .left))
 
 same-length-2 : tie.Need-same-length-2 Inv-loop μ-loop
 same-length-2 c = c .before .loop .inv .2 .long

@@ -1,23 +1,22 @@
 -- `search::list::list_marked` meets its contract. The invariant: the output lists the blocks of the runs passed.
 -- Assumes nothing.
 use borrow.Author.Needs.{needs}
-use mathlib.Core.Path.{_≡_, refl, sym, _∙_}
-use Prim.Native.Nat.{ℕ, _+_, _-_, _≤_, _<_}
-use lib.ListN.{length}
+use mathlib.Core.Path.{_∙_}
+use Prim.Native.Nat.{_-_, _≤_}
 use native.Mathlib.Omega.{arith}
-use Rattle.search.specs.Search.{Listing}
-use Rattle.search.proofs.Listings.{listing-none, listing-then, listing-all}
+use Rattle.search.specs.Marks.{ListedPart}
+use Rattle.search.proofs.Listings.{part-none, part-then, list-whole}
 use Rattle.search.proofs.list.list_marked.Statement.{statement}
 use Rattle.search.proofs.list.list_marked.Tie as tie
 
 abbrev Inv-loop : tie.InvT-loop
-Inv-loop marks output₀ blocks found n₀ from₀ output n from = (from ≤ blocks) × Listing marks found 0 0 output₀ from n output
+Inv-loop marks output₀ blocks found n₀ from₀ output n from = (from ≤ blocks) × ListedPart marks found 0 0 output₀ from n output
 
 abbrev μ-loop : tie.MeasureT-loop
 μ-loop marks output₀ blocks found n₀ from₀ output n from = blocks - from
 
 loop-holds : tie.Need-loop-holds Inv-loop μ-loop
-loop-holds c = (search needs, listing-none _ _ _ _ _)
+loop-holds c = (search needs, part-none _ _ _ _ _)
 
 add-loop : tie.Need-add-loop Inv-loop μ-loop
 add-loop c = search needs
@@ -32,7 +31,7 @@ loop-less : tie.Need-loop-less Inv-loop μ-loop
 loop-less c = search needs
 
 loop-again : tie.Need-loop-again Inv-loop μ-loop
-loop-again c = (omega arith, listing-then _ _ _ _ _ _ _ _ _ _ _ (omega arith) (c .before .before .before .before .before .loop .inv .1) (c .before .before .list-run .ensures))
+loop-again c = (omega arith, part-then _ _ _ _ _ _ _ _ _ _ _ (omega arith) (c .before .before .before .before .before .loop .inv .1) (c .before .before .list-run .ensures))
 
 list-blocks-requires : tie.Need-list-blocks-requires Inv-loop μ-loop
 list-blocks-requires c κs = omega (arith, c .before .before .loop .inv .1 .long, c .before .before .before .before .before .pre .0, c .before .before .before .before .before .pre .1, c .before .before .before .before .before .pre .2)
@@ -41,7 +40,7 @@ same-length : tie.Need-same-length Inv-loop μ-loop
 same-length c = c .before .before .list-blocks .ensures .long ∙ c .before .before .before .before .before .loop .inv .1 .long
 
 returns : tie.Need-returns Inv-loop μ-loop
-returns c = listing-all _ _ _ _ _ _ (c .before .before .before .before .before .before .before .before .pre .3) (listing-then _ _ _ _ _ _ _ _ _ _ _ (c .before .before .before .before .before .loop .inv .0) (c .before .before .before .before .before .loop .inv .1) (c .before .before .list-blocks .ensures))
+returns c = list-whole _ _ _ _ _ _ (c .before .before .before .before .before .before .before .before .pre .3) (part-then _ _ _ _ _ _ _ _ _ _ _ (c .before .before .before .before .before .loop .inv .0) (c .before .before .before .before .before .loop .inv .1) (c .before .before .list-blocks .ensures))
 
 pub list-marked-spec : {M : Type 1} → statement M
 list-marked-spec =

@@ -1,8 +1,7 @@
 -- `search::list::list_run` meets its contract: a run without a mark lists nothing.
 -- Assumes nothing.
 use borrow.Author.Needs.{needs}
-use Rattle.search.proofs.Listings.{listing-run}
-use native.Mathlib.Omega.{arith}
+use Rattle.search.proofs.Listings.{part-run}
 use Rattle.search.proofs.list.list_run.Statement.{statement}
 use Rattle.search.proofs.list.list_run.Tie as tie
 
@@ -10,7 +9,7 @@ none-marked-requires : tie.Need-none-marked-requires
 none-marked-requires c κs = search needs
 
 returns : tie.Need-returns
-returns c = listing-run _ _ _ _ _ (c .before .none-marked .ensures (c .if1 .taken))
+returns c = part-run _ _ _ _ _ (c .before .none-marked .ensures (c .if1 .taken))
 
 add-list-blocks : tie.Need-add-list-blocks
 add-list-blocks c = search needs

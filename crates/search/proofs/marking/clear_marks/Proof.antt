@@ -2,9 +2,9 @@
 -- Assumes nothing.
 use borrow.Author.Needs.{needs}
 use mathlib.Core.Path.{_≡_, refl}
-use mathlib.Core.List.{List, _++_}
-use Prim.Native.Nat.{ℕ, _≤_, _-_}
-use lib.ListN.{length, drop, replicate, set, length-set}
+use mathlib.Core.List.{_++_}
+use Prim.Native.Nat.{_≤_, _-_}
+use lib.ListN.{length, drop, replicate, length-set}
 use borrow.Author.Fill.{fill-none, fill-more}
 use native.Mathlib.Omega.{arith}
 use Rattle.search.proofs.marking.clear_marks.Statement.{statement}

@@ -1,4 +1,4 @@
--- `search::list::none_marked` meets its contract. The invariant: where the OR so far is 0, so are the marks passed.
+-- `search::marking::none_marked` meets its contract. The invariant: where the OR so far is 0, so are the marks passed.
 -- Assumes nothing.
 use borrow.Author.Needs.{needs}
 use mathlib.Core.Path.{_≡_, ap}
@@ -7,8 +7,8 @@ use lib.ListN.{getD, take, drop}
 use native.Mathlib.Omega.{arith}
 use borrow.Author.Tests.{eqb-true}
 use Rattle.search.proofs.Listings.{none-more, run-none}
-use Rattle.search.proofs.list.none_marked.Statement.{statement}
-use Rattle.search.proofs.list.none_marked.Tie as tie
+use Rattle.search.proofs.marking.none_marked.Statement.{statement}
+use Rattle.search.proofs.marking.none_marked.Tie as tie
 
 abbrev Inv-loop : tie.InvT-loop
 Inv-loop marks from run any₀ i₀ any i = (i ≤ 64) × (run ≡ take 64 (drop from marks)) × (any ≡ 0 → (j : ℕ) → j < i → getD (take 64 (drop from marks)) j 0 ≡ 0)
