@@ -3,6 +3,7 @@ pub mod front;
 pub mod nodes;
 pub mod rows;
 pub mod walk;
+pub mod words;
 
 ghost use mathlib.Core.Path.{_≡_};
 
