@@ -2,7 +2,6 @@
 mod ask;
 mod plan;
 mod store;
-mod words;
 
 ghost use Rattle.model.specs.Promises.{WithdrawPromise};
 ghost use Rattle.withdraw.specs.Asking.{Passed, Withdraws};

@@ -5,7 +5,7 @@ ghost use lib.ListN.{length};
 ghost use Rattle.model.specs.Tables.{linksOf, countOf};
 ghost use Rattle.withdraw.specs.Asking.{Passed};
 ghost use Rattle.withdraw.specs.Plan.{PlanFits, IsBefore, PlansChain, PlansRaise, PlansHead, PlansRight};
-use crate::words;
+use tables::words;
 
 // What is stored besides the block's row and the count: nothing, for unfit tables; a reference or a next word at an address; or a
 // sibling in its parent's place (the address of the parent's reference, the parent's node number, the sibling's reference).

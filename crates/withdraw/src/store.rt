@@ -8,7 +8,7 @@ ghost use Rattle.model.specs.Stores.{stores, _↤_};
 ghost use Rattle.model.specs.Withdraw.{withdrawalStores, raiseStores};
 ghost use Rattle.withdraw.specs.Plan.{PlanFits, isPlan, planStores};
 use crate::plan::Plan;
-use crate::words;
+use tables::words;
 
 // The block's row becomes 0, and the count falls by one.
 pub fn clear_row(links: &mut [u32], block: usize)
