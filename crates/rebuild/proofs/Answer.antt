@@ -13,7 +13,7 @@ use borrow.Author.Tests.{le-leb, lt-leb}
 use Rattle.model.specs.Sound.{Sound}
 use Rattle.model.specs.Rebuild.{rebuildLinks}
 use Rattle.model.specs.Questions.{asksTables, ask, tablesFit, rebuildRefusal, auditRefusal}
-use Rattle.model.specs.Promises.{unsound, Rebuilt, RebuildPromise, AuditPromise}
+use Rattle.model.specs.Promises.{unsound, RebuildPromise, AuditPromise}
 
 module _ (sigs links scratch : List ℕ) where
   abbrev fit : Bool

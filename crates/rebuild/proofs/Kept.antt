@@ -5,7 +5,7 @@ use Prim.Native.Nat.{ℕ, zero, suc, _+_, _-_, _≤_, _<_, max}
 use native.Mathlib.Omega.{arith}
 use mathlib.Core.Path.{_≡_, refl, sym, _∙_, ap, ap₂, subst}
 use mathlib.Core.Bool.{true, false}
-use mathlib.Core.List.{List, [], _∷_}
+use mathlib.Core.List.{List, _∷_}
 use lib.Dec.{eqb}
 use lib.ListN.{length}
 use Rattle.model.specs.Basics.{upFrom}
@@ -21,7 +21,7 @@ use Rattle.tables.proofs.Trees.{tree-of-sound}
 use Rattle.tables.proofs.Stored.{stored-leaves}
 use Rattle.tables.proofs.Unique.{tree-one, free-list-one}
 use Rattle.rebuild.proofs.Laid.{laid-long, laid-width, laid-told, laid-count, laid-row}
-use Rattle.rebuild.proofs.Rebuilt.{Made, rebuilt, all-below, heads-group}
+use Rattle.rebuild.proofs.Rebuilt.{rebuilt, all-below, heads-group}
 
 -- what stays: the length, words 0, 1 and 4, and the rows
 pub record Unchanged (B : ℕ) (links after : List ℕ) : Type 0 where

@@ -1,12 +1,12 @@
 -- The words of the links that Rebuild leaves, read off their definition: header, rows, then the nodes of the tree, then the free ones.
 -- Assumes nothing.
-use Prim.Native.Nat.{ℕ, zero, suc, _+_, _-_, _*_, _≤_, _<_, max}
+use Prim.Native.Nat.{ℕ, suc, _+_, _-_, _*_, _≤_, _<_, max}
 use native.Mathlib.Omega.{arith}
 use mathlib.Core.Path.{_≡_, refl, sym, _∙_, ap, ap₂}
 use mathlib.Core.List.{List, [], _∷_, _++_, append-nil, append-assoc}
-use lib.ListN.{length, getD, set, take, drop, length-append, length-drop, length-set, List·getD-append, drop-of-length-le}
+use lib.ListN.{length, set, take, drop, length-append, length-drop, length-set, List·getD-append, drop-of-length-le}
 use lib.Seq.{sets, sets-eq, length-take-le, getD-take, getD-drop}
-use Rattle.model.specs.Tables.{word, linksOf, positionAt, widthOf, toldBlocks, rootOf, freeOf, countOf, signatureOf}
+use Rattle.model.specs.Tables.{word, linksOf, positionAt, widthOf, toldBlocks, rootOf, freeOf, countOf}
 use Rattle.model.specs.Sound.{FitsAt}
 use Rattle.model.specs.Clear.{freeFrom, freeNodes}
 use Rattle.model.specs.Rebuild.{groupReference, groupNodes, groupLinks}

@@ -1,21 +1,21 @@
 -- Rebuild keeps sound tables sound, and its tree is made anew from the stored signatures. The heads of the old tree are a group of
 -- distinct signatures; the links laid of it spell the shape of its splits, and rows, count and signatures stay.
 -- Assumes nothing.
-use Prim.Native.Nat.{ℕ, zero, suc, _+_, _-_, _*_, _^_, _≤_, _<_, max}
+use Prim.Native.Nat.{ℕ, zero, suc, _+_, _-_, _^_, _≤_, _<_, max}
 use native.Mathlib.Decide.{decLt}
 use native.Mathlib.Omega.{arith}
-use mathlib.Core.Path.{_≡_, refl, sym, _∙_, ap, subst}
+use mathlib.Core.Path.{_≡_, refl, sym, _∙_, subst}
 use mathlib.Core.Logic.{_⊎_, inl, inr}
-use mathlib.Core.List.{List, [], _∷_, _++_, map, List·Memᴰ, List·Memᴰ·cases-cons, List·Memᴰ·not-nil}
+use mathlib.Core.List.{List, [], _∷_, map, List·Memᴰ, List·Memᴰ·cases-cons, List·Memᴰ·not-nil}
 use lib.ListN.{length, getD, length-map, List·getD-eq-default}
 use lib.Pow.{pow-pos}
 use Rattle.model.specs.Basics.{upFrom}
 use Rattle.model.specs.Tree.{Tree, nothing, signatures}
 use Rattle.model.specs.Build.{build, buildWithin}
-use Rattle.model.specs.Tables.{word, positionAt, nextAt, filedAt, widthOf, toldBlocks, rootOf, freeOf, countOf, nextOf, filedOf, signatureOf, treeFrom, treeOf}
+use Rattle.model.specs.Tables.{positionAt, nextAt, filedAt, widthOf, rootOf, freeOf, nextOf, filedOf, signatureOf, treeOf}
 use Rattle.model.specs.Sound.{Rooted, none, some, HoldsRoot, PlacedRoot, nodesIn, blocksIn, filedUpTo, FitsAt, SoundAt, Sound}
 use Rattle.model.specs.Clear.{freeNodes}
-use Rattle.model.specs.Rebuild.{headsFrom, headsOf, groupReference, groupNodes, groupLinks, rebuildLinks}
+use Rattle.model.specs.Rebuild.{headsOf, groupNodes, groupLinks}
 use Rattle.model.proofs.Keep.{upFrom-has}
 use Rattle.tables.proofs.Shapes.{chain-same, chain-range}
 use Rattle.tables.proofs.Counts.{heads}

@@ -1,7 +1,7 @@
 -- The shape that Rebuild writes of a group of heads: the links spell it, it is placed, since both sides of a split have some and differ
 -- at its position, its nodes are numbered in order, and every chain's blocks stand in it. Each by induction on the splits.
 -- Assumes nothing.
-use Prim.Native.Nat.{ℕ, zero, suc, _+_, _-_, _*_, _≤_, _<_}
+use Prim.Native.Nat.{ℕ, zero, suc, _+_, _-_, _≤_, _<_}
 use native.Mathlib.Omega.{arith}
 use mathlib.Core.Path.{_≡_, refl, sym, _∙_, ap, ap₂, subst}
 use mathlib.Core.Logic.{_⊎_, inl, inr, _≢_}
@@ -21,7 +21,7 @@ use Rattle.tables.proofs.Counts.{heads}
 use Rattle.split.specs.Split.{Apart, Below}
 use Rattle.split.proofs.Sums.{total-append}
 use Rattle.split.proofs.Sides.{side-member, side-has, sides-total}
-use Rattle.split.proofs.Nodes.{half, Sizes, nodes-step, nodes-length, apart-half, group-induction}
+use Rattle.split.proofs.Nodes.{half, nodes-step, nodes-length, apart-half, group-induction}
 use Rattle.tables.proofs.Spelled.{Spells, spells-append, node-spelled}
 use Rattle.rebuild.proofs.Heads.{Heads}
 

@@ -1,7 +1,7 @@
 -- The rebuilt shape's plain tree is the tree made anew from the heads' signatures: splitting blocks by their signatures, and
 -- splitting the signatures themselves, are the same choices.
 -- Assumes nothing.
-use Prim.Native.Nat.{ℕ, zero, suc, _+_, _-_, _≤_, min}
+use Prim.Native.Nat.{ℕ, suc, _+_, _-_, _≤_, min}
 use native.Mathlib.Decide.{ℕ-discrete}
 use native.Mathlib.Omega.{arith}
 use mathlib.Core.Path.{_≡_, refl, sym, _∙_, ap, ap₂}

@@ -7,7 +7,7 @@ use mathlib.Core.Path.{_≡_, refl, sym, _∙_, ap}
 use mathlib.Core.List.{List, [], _∷_, _++_, List·Memᴰ, List·Memᴰ·head, List·Memᴰ·tail}
 use lib.ListN.{length, getD, set, take, drop, length-set}
 use lib.Seq.{sets, sets-eq, length-sets, length-take-le, take-at, drop-at, drop-drop, getD-take}
-use Rattle.model.specs.Tables.{linksOf, positionAt, widthOf, signatureOf}
+use Rattle.model.specs.Tables.{linksOf, positionAt, widthOf}
 use Rattle.model.specs.Sound.{Sound}
 use Rattle.model.specs.Clear.{freeFrom, freeNodes}
 use Rattle.model.specs.Rebuild.{headsOf, groupReference, groupNodes, rebuildLinks}
@@ -45,7 +45,17 @@ reference-head zero x y node h = refl
 reference-head (suc zero) x y node h = h (omega arith)
 reference-head (suc (suc n)) x y node h = refl
 
-module _ (sigs links : List ℕ) (S : Sound sigs links) where
+pub heads-fit : (sigs links : List ℕ) → Sound sigs links → length (headsOf sigs links) ≤ length sigs
+heads-fit sigs links S = heads-group sigs links S .few
+
+-- sound tables whose heads are collected: d of them, in the front of the scratch, which was l and is l1
+pub record Collected (sigs links l l1 : List ℕ) (d : ℕ) : Type 0 where
+  pub sound : Sound sigs links
+  pub room : length sigs ≤ length l
+  pub count : d ≡ 0 + length (headsOf sigs links)
+  pub list : l1 ≡ sets l 0 (headsOf sigs links)
+
+module _ (sigs links l l1 : List ℕ) (d : ℕ) (K : Collected sigs links l l1 d) where
   abbrev B : ℕ
   B = length sigs
 
@@ -55,64 +65,61 @@ module _ (sigs links : List ℕ) (S : Sound sigs links) where
   abbrev heads : List ℕ
   heads = headsOf sigs links
 
+  abbrev S : Sound sigs links
+  S = K .sound
+
   G : HeadsGroup sigs links S
   G = heads-group sigs links S
 
-  pub heads-fit : length (headsOf sigs links) ≤ length sigs
-  heads-fit = G .few
+  count : d ≡ length heads
+  count = omega (arith, K .count)
 
-  -- after the heads are collected: d of them, in the front of the scratch l1
-  module _ (l l1 : List ℕ) (d : ℕ) (room : length sigs ≤ length l) (count : d ≡ 0 + length (headsOf sigs links)) (list : l1 ≡ sets l 0 (headsOf sigs links)) where
-    pub few : d ≤ length sigs
-    few = omega (arith, G .few)
+  pub few : d ≤ length sigs
+  few = omega (arith, G .few, count)
 
-    pub long : length l1 ≡ length l
-    long = ap length list ∙ length-sets l 0 heads
+  pub long : length l1 ≡ length l
+  long = ap length (K .list) ∙ length-sets l 0 heads
 
-    pub fits : d ≤ length l1
-    fits = omega (arith, G .few, long)
+  pub fits : d ≤ length l1
+  fits = omega (arith, few, long, K .room)
 
-    collected : take d l1 ≡ heads
-    collected =
-        let e : d ≡ length heads = omega arith in
-        rw (list, e) (sets-front l heads (omega (arith, G .few)))
+  collected : take d l1 ≡ heads
+  collected =
+      rw (K .list, count) (sets-front l heads (omega (arith, G .few, K .room)))
 
-    group : Group F sigs heads
-    group = record { from = S .fits .width-from; to = S .fits .width-to; blocks = all-blocks B heads (G .blocks); below = all-below sigs links S; apart = G .apart }
+  group : Group F sigs heads
+  group = record { from = S .fits .width-from; to = S .fits .width-to; blocks = all-blocks B heads (G .blocks); below = all-below sigs links S; apart = G .apart }
 
-    -- what the call that builds the tree asks
-    pub build-asks : (reference free : ℕ) → Group (widthOf links) sigs (take d l1)
-        × (((length sigs ≤ 65535) × (length (set (set links 2 reference) 3 free) ≡ linksOf (length sigs))) × ((1 ≤ 1) × (1 + length (take d l1) ≤ length sigs + 1)))
-    build-asks reference free =
-        let n = length-take-le d l1 fits in
-        (rw collected group, ((S .fits .blocks-to, simp length-set (S .fits .links-long)), omega (arith, few)))
+  -- what the call that builds the tree asks
+  pub build-asks : (reference free : ℕ) → Group (widthOf links) sigs (take d l1)
+      × (((length sigs ≤ 65535) × (length (set (set links 2 reference) 3 free) ≡ linksOf (length sigs))) × ((1 ≤ 1) × (1 + length (take d l1) ≤ length sigs + 1)))
+  build-asks reference free =
+      let n = length-take-le d l1 fits in
+      (rw collected group, ((S .fits .blocks-to, simp length-set (S .fits .links-long)), omega (arith, few)))
 
-    -- the root's reference
-    root : referenceTo d (getD l1 0 0) (length sigs + 1) ≡ groupReference (length sigs) (headsOf sigs links) 1
-    root =
-        let e : d ≡ length heads = omega arith in
-        reference-head d (getD l1 0 0) (getD heads 0 0) (B + 1) (λ h. sym (getD-take d l1 0 0 h) ∙ ap (λ (k : List ℕ). getD k 0 0) collected)
-        ∙ ap (λ (n : ℕ). referenceTo n (getD heads 0 0) (B + 1)) e
-        ∙ sym (reference-by B heads 1)
+  -- the root's reference
+  root : referenceTo d (getD l1 0 0) (length sigs + 1) ≡ groupReference (length sigs) (headsOf sigs links) 1
+  root =
+      reference-head d (getD l1 0 0) (getD heads 0 0) (B + 1) (λ h. sym (getD-take d l1 0 0 h) ∙ ap (λ (k : List ℕ). getD k 0 0) collected)
+      ∙ ap (λ (n : ℕ). referenceTo n (getD heads 0 0) (B + 1)) count
+      ∙ sym (reference-by B heads 1)
 
-    -- later words of the scratch are as they were
-    pub beyond : (ys : List ℕ) → length ys ≡ length (take d l1) → drop (length sigs) (ys ++ drop d l1) ≡ drop (length sigs) l
-    beyond ys e =
-        let q : d ≡ length heads = omega arith in
-        let r : drop d l1 ≡ drop d l = rw (list, q) (sets-rest l heads (omega (arith, G .few))) in
-        drop-later d B (ys ++ drop d l1) l few (drop-at ys (drop d l1) d (e ∙ length-take-le d l1 fits) ∙ r)
+  -- later words of the scratch are as they were
+  pub beyond : (ys : List ℕ) → length ys ≡ length (take d l1) → drop (length sigs) (ys ++ drop d l1) ≡ drop (length sigs) l
+  beyond ys e =
+      let r : drop d l1 ≡ drop d l = rw (K .list, count) (sets-rest l heads (omega (arith, G .few, K .room))) in
+      drop-later d B (ys ++ drop d l1) l few (drop-at ys (drop d l1) d (e ∙ length-take-le d l1 fits) ∙ r)
 
-    -- the links at the end
-    pub whole : (first reference free : ℕ) (built final : List ℕ) → first ≡ max 1 d → reference ≡ referenceTo d (getD l1 0 0) (length sigs + 1) → free ≡ freeFrom (length sigs) first
-        → built ≡ sets (set (set links 2 reference) 3 free) (positionAt (length sigs) 1) (groupNodes (length (take d l1)) (widthOf links) sigs (take d l1) 1)
-        → final ≡ sets built (positionAt (length sigs) first) (freeNodes (length sigs - first) first) → final ≡ rebuildLinks sigs links
-    whole first reference free built final ef er ez eb e =
-        let q : d ≡ length heads = omega arith in
-        let f : first ≡ max 1 (length heads) = ef ∙ ap (max 1) q in
-        let r : reference ≡ groupReference B heads 1 = er ∙ root in
-        let z : free ≡ freeFrom B (max 1 (length heads)) = ez ∙ ap (freeFrom B) f in
-        let b : built ≡ sets (set (set links 2 (groupReference B heads 1)) 3 (freeFrom B (max 1 (length heads)))) (positionAt B 1) (groupNodes (length heads) F sigs heads 1) =
-        eb ∙ ap (λ (k : List ℕ). sets (set (set links 2 reference) 3 free) (positionAt B 1) (groupNodes (length k) F sigs k 1)) collected ∙ (cc) in
-        e ∙ ap (λ (n : ℕ). sets built (positionAt B n) (freeNodes (B - n) n)) f
-        ∙ ap (λ (k : List ℕ). sets k (positionAt B (max 1 (length heads))) (freeNodes (B - max 1 (length heads)) (max 1 (length heads)))) b
-        ∙ written sigs links heads (S .fits) (all-below sigs links S) (G .apart) (G .few)
+  -- the links at the end
+  pub whole : (first reference free : ℕ) (built final : List ℕ) → first ≡ max 1 d → reference ≡ referenceTo d (getD l1 0 0) (length sigs + 1) → free ≡ freeFrom (length sigs) first
+      → built ≡ sets (set (set links 2 reference) 3 free) (positionAt (length sigs) 1) (groupNodes (length (take d l1)) (widthOf links) sigs (take d l1) 1)
+      → final ≡ sets built (positionAt (length sigs) first) (freeNodes (length sigs - first) first) → final ≡ rebuildLinks sigs links
+  whole first reference free built final ef er ez eb e =
+      let f : first ≡ max 1 (length heads) = ef ∙ ap (max 1) count in
+      let r : reference ≡ groupReference B heads 1 = er ∙ root in
+      let z : free ≡ freeFrom B (max 1 (length heads)) = ez ∙ ap (freeFrom B) f in
+      let b : built ≡ sets (set (set links 2 (groupReference B heads 1)) 3 (freeFrom B (max 1 (length heads)))) (positionAt B 1) (groupNodes (length heads) F sigs heads 1) =
+      eb ∙ ap (λ (k : List ℕ). sets (set (set links 2 reference) 3 free) (positionAt B 1) (groupNodes (length k) F sigs k 1)) collected ∙ (cc) in
+      e ∙ ap (λ (n : ℕ). sets built (positionAt B n) (freeNodes (B - n) n)) f
+      ∙ ap (λ (k : List ℕ). sets k (positionAt B (max 1 (length heads))) (freeNodes (B - max 1 (length heads)) (max 1 (length heads)))) b
+      ∙ written sigs links heads (S .fits) (all-below sigs links S) (G .apart) (G .few)

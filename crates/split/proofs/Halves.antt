@@ -1,19 +1,19 @@
 -- What `build` knows once it has split its group, and what follows for the reference of each half, for its two calls of itself and
 -- for the words that it leaves.
 -- Assumes nothing.
-use Prim.Native.Nat.{ℕ, zero, suc, _+_, _-_, _*_, _≤_, _<_}
+use Prim.Native.Nat.{ℕ, zero, suc, _+_, _-_, _≤_, _<_}
 use native.Mathlib.Omega.{arith}
-use mathlib.Core.Path.{_≡_, refl, sym, _∙_, ap, subst}
+use mathlib.Core.Path.{_≡_, refl, sym, _∙_, ap}
 use mathlib.Core.List.{List, [], _∷_, _++_}
 use lib.ListN.{length, getD, take, drop, length-append, length-drop}
-use lib.Seq.{sets, length-sets, length-take-le, drop-at, take-all, getD-take, getD-drop}
+use lib.Seq.{sets, length-take-le, drop-at, take-all, getD-take, getD-drop}
 use Rattle.model.specs.Build.{bestPosition}
 use Rattle.model.specs.Tables.{linksOf, positionAt, leftAt, rightAt, signatureOf}
 use Rattle.model.specs.Stores.{_↤_, stores}
 use Rattle.model.specs.Rebuild.{groupReference, groupNodes}
 use Rattle.model.proofs.Members.{Same, same-length}
-use Rattle.split.specs.Split.{Blocks, Apart, Group, Parted, Halved, referenceTo}
-use Rattle.split.proofs.Sums.{same-sym, same-trans, blocks-same, blocks-take, blocks-drop}
+use Rattle.split.specs.Split.{Blocks, Group, Parted, Halved, referenceTo}
+use Rattle.split.proofs.Sums.{same-sym, blocks-same, blocks-take, blocks-drop}
 use Rattle.split.proofs.Sides.{parted-left, parted-right}
 use Rattle.split.proofs.Best.{apart-same}
 use Rattle.split.proofs.Nodes.{sets-append, node-stores, reference-by, reference-same, half, Sizes, sizes, apart-half, nodes-step, nodes-length, nodes-same, nodes-few}
@@ -54,6 +54,15 @@ pub record Known (F : ℕ) (sigs g after links : List ℕ) (p k i t : ℕ) : Typ
   pub halved : Halved F (signatureOf sigs) g after p k
   pub many : 2 ≤ length g
 
+-- the numbers in it: B blocks, a group of n blocks, after blocks after the split, k of them in the left half, and node i
+pub record Bounds (B n after k i : ℕ) : Type 0 where
+  pub same : after ≡ n
+  pub low : 1 ≤ k
+  pub high : k < n
+  pub small : B ≤ 65535
+  pub from : 1 ≤ i
+  pub to : i + n ≤ B + 1
+
 module _ (F : ℕ) (sigs g after links : List ℕ) (p k i t : ℕ) (h : Known F sigs g after links p k i t) where
   abbrev B : ℕ
   B = length sigs
@@ -64,7 +73,7 @@ module _ (F : ℕ) (sigs g after links : List ℕ) (p k i t : ℕ) (h : Known F 
   abbrev high : List ℕ
   high = drop k after
 
-  pub after-length : length after ≡ length g
+  after-length : length after ≡ length g
   after-length = same-length after g (h .halved .same)
 
   pub low-length : length (take k after) ≡ k
@@ -86,13 +95,16 @@ module _ (F : ℕ) (sigs g after links : List ℕ) (p k i t : ℕ) (h : Known F 
   same-high = rw (← (h .halved .best)) (h .halved .right)
 
   -- both halves have some
-  pub some : (1 ≤ k) × (k < length g)
+  some : (1 ≤ k) × (k < length g)
   some =
       let l = both .left in
       let r = both .right in
       let n = same-length low (half F sigs 0 g) same-low in
       let m = same-length high (half F sigs 1 g) same-high in
       omega (arith, low-length, high-length)
+
+  pub bounds : Bounds (length sigs) (length g) (length after) k i
+  bounds = let q = some in record { same = after-length; low = q .0; high = q .1; small = h .small; from = h .node .0; to = h .node .1 }
 
   -- and are groups
   half-group : (e : ℕ) (l : List ℕ) → e ≤ 1 → Same l (half F sigs e g) → Blocks B l → Group F sigs l

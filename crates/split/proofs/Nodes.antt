@@ -3,17 +3,16 @@
 -- Assumes nothing.
 use Prim.Native.Nat.{ℕ, zero, suc, _+_, _-_, _*_, _≤_, _<_}
 use native.Mathlib.Omega.{arith}
-use mathlib.Core.Path.{_≡_, refl, sym, _∙_, ap, ap₂}
+use mathlib.Core.Path.{_≡_, refl, sym}
 use mathlib.Core.List.{List, [], _∷_, _++_}
-use lib.ListN.{length, getD, set, take, drop, length-append, length-drop}
-use lib.Seq.{sets, getD-take, getD-drop, length-take-le}
-use Rattle.model.specs.Signature.{bitAt}
+use lib.ListN.{length, getD, set, length-append}
+use lib.Seq.{sets}
 use Rattle.model.specs.Build.{side, bestPosition}
 use Rattle.model.specs.Tables.{positionAt, leftAt, rightAt, signatureOf}
 use Rattle.model.specs.Stores.{_↤_, stores}
 use Rattle.model.specs.Rebuild.{groupReference, groupNodes}
-use Rattle.model.proofs.Members.{total, Same, same-length}
-use Rattle.split.specs.Split.{Apart, Below, Halved, referenceTo}
+use Rattle.model.proofs.Members.{Same, same-length}
+use Rattle.split.specs.Split.{Apart, Below, referenceTo}
 use Rattle.model.proofs.Build.{side-same}
 use Rattle.split.proofs.Sides.{sides-length}
 use Rattle.split.proofs.Best.{best-same, splits, apart-side}

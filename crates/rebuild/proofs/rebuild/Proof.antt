@@ -27,8 +27,14 @@ audit-requires c κs = search needs
 
 rebuild-sound-requires : tie.Need-rebuild-sound-requires
 rebuild-sound-requires c κs =
-    let s = c .before .before .before .before .before .before .before .before .before .before .before .before .args in
-    (is-sound (s .signatures .now) (s .links .now) (s .scratch .now) (sym (c .before .before .before .before .before .before .before .tables-fit .ensures .0) ∙ not-false _ (c .before .before .before .before .before .before .if1 .left)) _ (c .before .before .before .audit .ensures) (c .before .before .if3 .taken), c .before .before .before .before .before .if2 .left)
+    let at-if3 = c .before .before in
+    let at-audit = at-if3 .before in
+    let at-if2 = at-audit .before .before in
+    let at-if1 = at-if2 .before in
+    let at-tables-fit = at-if1 .before in
+    let at-start = at-tables-fit .before .before .before .before .before in
+    let s = at-start .args in
+    (is-sound (s .signatures .now) (s .links .now) (s .scratch .now) (sym (at-tables-fit .tables-fit .ensures .0) ∙ not-false _ (at-if1 .if1 .left)) _ (at-audit .audit .ensures) (at-if3 .if3 .taken), at-if2 .if2 .left)
 
 same-length-3 : tie.Need-same-length-3
 same-length-3 c = search needs
@@ -38,17 +44,29 @@ same-length-4 c = search needs
 
 returns-3 : tie.Need-returns-3
 returns-3 c =
-    let s = c .before .before .before .before .before .before .before .before .before .before .before .before .before .before .before .before .before .args in
-    let yes = sym (c .before .before .before .before .before .before .before .before .before .before .before .before .tables-fit .ensures .0) ∙ not-false _ (c .before .before .before .before .before .before .before .before .before .before .before .if1 .left) in
-    let S = is-sound (s .signatures .now) (s .links .now) (s .scratch .now) yes _ (c .before .before .before .before .before .before .before .before .audit .ensures) (c .before .before .before .before .before .before .before .if3 .taken) in
-    let b = c .before .before .before .before .rebuild-sound in
-    answers-rebuilt _ _ _ yes (c .before .before .before .before .before .before .before .before .before .before .if2 .left) S _ _ (b .ensures .0) (b .kept .1 .1 .0) (b .ensures .1)
+    let at-rebuild-sound = c .before .before .before .before in
+    let at-if3 = at-rebuild-sound .before .before .before in
+    let at-audit = at-if3 .before in
+    let at-if2 = at-audit .before .before in
+    let at-if1 = at-if2 .before in
+    let at-tables-fit = at-if1 .before in
+    let at-start = at-tables-fit .before .before .before .before .before in
+    let s = at-start .args in
+    let yes = sym (at-tables-fit .tables-fit .ensures .0) ∙ not-false _ (at-if1 .if1 .left) in
+    let S = is-sound (s .signatures .now) (s .links .now) (s .scratch .now) yes _ (at-audit .audit .ensures) (at-if3 .if3 .taken) in
+    let b = at-rebuild-sound .rebuild-sound in
+    answers-rebuilt _ _ _ yes (at-if2 .if2 .left) S _ _ (b .ensures .0) (b .kept .1 .1 .0) (b .ensures .1)
 
 same-length-5 : tie.Need-same-length-5
 same-length-5 c = search needs
 
 returns-4 : tie.Need-returns-4
-returns-4 c = answers-unsound _ _ _ (sym (c .before .before .before .before .before .tables-fit .ensures .0) ∙ not-false _ (c .before .before .before .before .if1 .left)) (c .before .before .before .if2 .left) _ (c .before .audit .ensures) (c .if3 .left)
+returns-4 c =
+    let at-audit = c .before in
+    let at-if2 = at-audit .before .before in
+    let at-if1 = at-if2 .before in
+    let at-tables-fit = at-if1 .before in
+    answers-unsound _ _ _ (sym (at-tables-fit .tables-fit .ensures .0) ∙ not-false _ (at-if1 .if1 .left)) (at-if2 .if2 .left) _ (at-audit .audit .ensures) (c .if3 .left)
 
 pub rebuild-spec : {M : Type 1} → statement M
 rebuild-spec =

@@ -1,12 +1,11 @@
 -- `split::build` meets its contract: it calls itself on each half of the group, whose nodes follow its own. The measure is the
 -- group's length.
 -- Assumes nothing.
-use Prim.Native.Nat.{ℕ, _≤_, _<_}
+use Prim.Native.Nat.{ℕ, _<_}
 use native.Mathlib.Omega.{arith}
-use mathlib.Core.Path.{_≡_, sym, _∙_}
+use mathlib.Core.Path.{sym, _∙_}
 use lib.ListN.{length}
-use Rattle.split.proofs.Halves.{Known, some, after-length, low-length, left-asks, right-asks, whole-length, rest, back-length, finish, few}
-use borrow.Author.Needs.{needs}
+use Rattle.split.proofs.Halves.{Known, Bounds, bounds, low-length, left-asks, right-asks, whole-length, rest, back-length, finish, few}
 use borrow.Fn.Kinds.{In, Out}
 use borrow.Fn.PlainCycle.{Measures, is, falls, and}
 use Rattle.split.proofs.build.Reads as build
@@ -57,156 +56,136 @@ known t c =
       many = c .before .before .before .before .before .if1 .left;
     }
 
+numbers : (t : ℕ) (c : Place t)
+    → Bounds (length (start t c .args .signatures .now)) (length (start t c .args .group .now)) (length (c .before .before .before .split .last .1 .0)) (c .before .before .before .split .result .low) (start t c .args .first)
+numbers t c = bounds _ _ _ _ _ _ _ _ _ (known t c)
+
 returns : At build-lts.Need-returns
 returns t c =
     let a = c .before .before .before .before .args in
     few (a .width) (a .signatures .now) (a .group .now) (a .first) (a .links .now) (c .if1 .taken)
 
 split-requires : At build-lts.Need-split-requires
-split-requires t c κs = let g = c .before .before .before .before .before .pre .1 .0 in (g .blocks, (g .from, g .to))
+split-requires t c κs =
+    let at-start = c .before .before .before .before .before in
+    let g = at-start .pre .1 .0 in (g .blocks, (g .from, g .to))
 
 slice-read-reference : At build-lts.Need-slice-read-reference
-slice-read-reference t c =
-    let K = known t c in
-    let n = after-length _ _ _ _ _ _ _ _ _ K in
-    let q = some _ _ _ _ _ _ _ _ _ K in
-    omega (arith, K .small, K .node)
+slice-read-reference t c = omega (arith, numbers t c)
 
 add-reference : At build-lts.Need-add-reference
-add-reference t c =
-    let K = known t c in
-    let n = after-length _ _ _ _ _ _ _ _ _ K in
-    let q = some _ _ _ _ _ _ _ _ _ K in
-    omega (arith, K .small, K .node)
+add-reference t c = omega (arith, numbers t c)
 
 add-reference-2 : At build-lts.Need-add-reference-2
-add-reference-2 t c =
-    let K = known t c in
-    let n = after-length _ _ _ _ _ _ _ _ _ K in
-    let q = some _ _ _ _ _ _ _ _ _ K in
-    omega (arith, K .small, K .node)
+add-reference-2 t c = omega (arith, numbers t c)
 
 reference-requires : At build-lts.Need-reference-requires
-reference-requires t c κs =
-    let K = known t c in
-    let n = after-length _ _ _ _ _ _ _ _ _ K in
-    let q = some _ _ _ _ _ _ _ _ _ K in
-    omega (arith, K .small, K .node)
+reference-requires t c κs = omega (arith, numbers t c)
 
 sub-reference : At build-lts.Need-sub-reference
-sub-reference t c =
-    let K = known t (c .before) in
-    let n = after-length _ _ _ _ _ _ _ _ _ K in
-    let q = some _ _ _ _ _ _ _ _ _ K in
-    omega (arith, K .small, K .node)
+sub-reference t c = omega (arith, numbers t (c .before))
 
 mul-reference : At build-lts.Need-mul-reference
-mul-reference t c =
-    let K = known t (c .before) in
-    let n = after-length _ _ _ _ _ _ _ _ _ K in
-    let q = some _ _ _ _ _ _ _ _ _ K in
-    omega (arith, K .small, K .node)
+mul-reference t c = omega (arith, numbers t (c .before))
 
 slice-read-reference-2 : At build-lts.Need-slice-read-reference-2
-slice-read-reference-2 t c =
-    let K = known t (c .before .before) in
-    let n = after-length _ _ _ _ _ _ _ _ _ K in
-    let q = some _ _ _ _ _ _ _ _ _ K in
-    omega (arith, K .small, K .node)
+slice-read-reference-2 t c = omega (arith, numbers t (c .before .before))
 
 add-reference-3 : At build-lts.Need-add-reference-3
-add-reference-3 t c =
-    let K = known t (c .before .before) in
-    let n = after-length _ _ _ _ _ _ _ _ _ K in
-    let q = some _ _ _ _ _ _ _ _ _ K in
-    omega (arith, K .small, K .node)
+add-reference-3 t c = omega (arith, numbers t (c .before .before))
 
 add-reference-4 : At build-lts.Need-add-reference-4
-add-reference-4 t c =
-    let K = known t (c .before .before) in
-    let n = after-length _ _ _ _ _ _ _ _ _ K in
-    let q = some _ _ _ _ _ _ _ _ _ K in
-    omega (arith, K .small, K .node)
+add-reference-4 t c = omega (arith, numbers t (c .before .before))
 
 reference-requires-2 : At build-lts.Need-reference-requires-2
-reference-requires-2 t c κs =
-    let K = known t (c .before .before) in
-    let n = after-length _ _ _ _ _ _ _ _ _ K in
-    let q = some _ _ _ _ _ _ _ _ _ K in
-    omega (arith, K .small, K .node)
+reference-requires-2 t c κs = omega (arith, numbers t (c .before .before))
 
 set-node-requires : At build-lts.Need-set-node-requires
 set-node-requires t c κs =
-    let K = known t (c .before .before .before .before) in
-    let q = some _ _ _ _ _ _ _ _ _ K in
-    (K .room, omega (arith, K .node))
+    let at-split = c .before .before .before .before in
+    (known t at-split .room, omega (arith, numbers t at-split))
 
 slice-relend-prefix-build : At build-lts.Need-slice-relend-prefix-build
-slice-relend-prefix-build t c = known t (c .before .before .before .before .before .before .before .before) .halved .fits
+slice-relend-prefix-build t c =
+    let at-split = c .before .before .before .before .before .before .before .before in
+    known t at-split .halved .fits
 
 slice-aggregate-build : At build-lts.Need-slice-aggregate-build
-slice-aggregate-build t c = sym (low-length _ _ _ _ _ _ _ _ _ (known t (c .before .before .before .before .before .before .before .before .before)))
+slice-aggregate-build t c =
+    let at-split = c .before .before .before .before .before .before .before .before .before in
+    sym (low-length _ _ _ _ _ _ _ _ _ (known t at-split))
 
 add-build : At build-lts.Need-add-build
 add-build t c =
-    let K = known t (c .before .before .before .before .before .before .before .before .before) in
-    let n = after-length _ _ _ _ _ _ _ _ _ K in
-    let q = some _ _ _ _ _ _ _ _ _ K in
-    omega (arith, K .small, K .node)
+    let at-split = c .before .before .before .before .before .before .before .before .before in
+    omega (arith, numbers t at-split)
 
 build-requires : At build-lts.Need-build-requires
-build-requires t c κs = left-asks _ _ _ _ _ _ _ _ _ (known t (c .before .before .before .before .before .before .before .before .before)) (c .before .before .before .before .set-node .last .0) (c .before .before .before .before .set-node .kept .0)
+build-requires t c κs =
+    let at-set-node = c .before .before .before .before in
+    let at-split = at-set-node .before .before .before .before .before in
+    left-asks _ _ _ _ _ _ _ _ _ (known t at-split) (at-set-node .set-node .last .0) (at-set-node .set-node .kept .0)
 
 mul-build : At build-lts.Need-mul-build
 mul-build t c =
-    let K = known t (c .before .before .before .before .before .before .before .before .before .before .before .before .before .before .before) in
-    let n = after-length _ _ _ _ _ _ _ _ _ K in
-    let q = some _ _ _ _ _ _ _ _ _ K in
-    omega (arith, K .small, K .node)
+    let at-split = c .before .before .before .before .before .before .before .before .before .before .before .before .before .before .before in
+    omega (arith, numbers t at-split)
 
 sub-build : At build-lts.Need-sub-build
 sub-build t c =
-    let K = known t (c .before .before .before .before .before .before .before .before .before .before .before .before .before .before .before) in
-    let n = whole-length _ _ _ _ _ _ _ _ _ K (c .before .before .before .before .before .build .last .1 .1 .0) (c .before .before .before .before .before .build .kept .1 .1 .0) in
-    let q = some _ _ _ _ _ _ _ _ _ K in
-    omega arith
+    let at-build = c .before .before .before .before .before in
+    let at-split = at-build .before .before .before .before .before .before .before .before .before .before in
+    omega (arith, numbers t at-split, whole-length _ _ _ _ _ _ _ _ _ (known t at-split) (at-build .build .last .1 .1 .0) (at-build .build .kept .1 .1 .0))
 
 part-build-start : At build-lts.Need-part-build-start
 part-build-start t c =
-    let K = known t (c .before .before .before .before .before .before .before .before .before .before .before .before .before .before .before) in
-    let n = whole-length _ _ _ _ _ _ _ _ _ K (c .before .before .before .before .before .build .last .1 .1 .0) (c .before .before .before .before .before .build .kept .1 .1 .0) in
-    let q = some _ _ _ _ _ _ _ _ _ K in
-    omega arith
+    let at-build = c .before .before .before .before .before in
+    let at-split = at-build .before .before .before .before .before .before .before .before .before .before in
+    omega (arith, numbers t at-split, whole-length _ _ _ _ _ _ _ _ _ (known t at-split) (at-build .build .last .1 .1 .0) (at-build .build .kept .1 .1 .0))
 
 part-build-end : At build-lts.Need-part-build-end
 part-build-end t c = omega arith
 
 add-build-2 : At build-lts.Need-add-build-2
 add-build-2 t c =
-    let K = known t (c .before .before .before .before .before .before .before .before .before .before .before .before .before .before .before .before) in
-    let n = after-length _ _ _ _ _ _ _ _ _ K in
-    let q = some _ _ _ _ _ _ _ _ _ K in
-    omega (arith, K .small, K .node)
+    let at-split = c .before .before .before .before .before .before .before .before .before .before .before .before .before .before .before .before in
+    omega (arith, numbers t at-split)
 
 build-requires-2 : At build-lts.Need-build-requires-2
 build-requires-2 t c κs =
-    right-asks _ _ _ _ _ _ _ _ _ (known t (c .before .before .before .before .before .before .before .before .before .before .before .before .before .before .before .before)) (c .before .before .before .before .before .before .build .last .1 .1 .0) (c .before .before .before .before .before .before .build .kept .1 .1 .0) (c .before .before .before .before .before .before .build .last .1 .0) (c .before .before .before .before .before .before .build .kept .1 .0 ∙ c .before .before .before .before .before .before .before .before .before .before .before .set-node .kept .0)
+    let at-build = c .before .before .before .before .before .before in
+    let at-set-node = at-build .before .before .before .before .before in
+    let at-split = at-set-node .before .before .before .before .before in
+    right-asks _ _ _ _ _ _ _ _ _ (known t at-split) (at-build .build .last .1 .1 .0) (at-build .build .kept .1 .1 .0) (at-build .build .last .1 .0) (at-build .build .kept .1 .0 ∙ at-set-node .set-node .kept .0)
 
 same-length : At build-lts.Need-same-length
-same-length t c = c .before .before .before .before .build2 .kept .1 .0 ∙ c .before .before .before .before .before .before .before .before .before .before .before .build .kept .1 .0 ∙ c .before .before .before .before .before .before .before .before .before .before .before .before .before .before .before .before .set-node .kept .0
+same-length t c =
+    let at-build2 = c .before .before .before .before in
+    let at-build = at-build2 .before .before .before .before .before .before .before in
+    let at-set-node = at-build .before .before .before .before .before in
+    at-build2 .build2 .kept .1 .0 ∙ at-build .build .kept .1 .0 ∙ at-set-node .set-node .kept .0
 
 same-length-2 : At build-lts.Need-same-length-2
 same-length-2 t c =
-    back-length _ _ _ _ _ _ _ _ _ (known t (c .before .before .before .before .before .before .before .before .before .before .before .before .before .before .before .before .before .before .before .before .before)) (c .before .before .before .before .before .before .before .before .before .before .before .build .last .1 .1 .0) (c .before .before .before .before .before .before .before .before .before .before .before .build .kept .1 .1 .0) (c .before .before .before .before .build2 .last .1 .1 .0) (c .before .before .before .before .build2 .kept .1 .1 .0)
+    let at-build2 = c .before .before .before .before in
+    let at-build = at-build2 .before .before .before .before .before .before .before in
+    let at-split = at-build .before .before .before .before .before .before .before .before .before .before in
+    back-length _ _ _ _ _ _ _ _ _ (known t at-split) (at-build .build .last .1 .1 .0) (at-build .build .kept .1 .1 .0) (at-build2 .build2 .last .1 .1 .0) (at-build2 .build2 .kept .1 .1 .0)
 
 returns-2 : At build-lts.Need-returns-2
 returns-2 t c =
-    let K = known t (c .before .before .before .before .before .before .before .before .before .before .before .before .before .before .before .before .before .before .before .before .before) in
-    let one = c .before .before .before .before .before .before .before .before .before .before .before .build in
-    let two = c .before .before .before .before .build2 in
+    let at-build2 = c .before .before .before .before in
+    let at-build = at-build2 .before .before .before .before .before .before .before in
+    let at-set-node = at-build .before .before .before .before .before in
+    let at-reference2 = at-set-node .before .before in
+    let at-reference = at-reference2 .before .before in
+    let at-split = at-reference .before in
+    let K = known t at-split in
+    let one = at-build .build in
+    let two = at-build2 .build2 in
     let e = rest _ _ _ _ _ _ _ _ _ K (one .last .1 .1 .0) (one .kept .1 .1 .0) in
-    finish _ _ _ _ _ _ _ _ _ K (c .before .before .before .before .before .before .before .before .before .before .before .before .before .before .before .before .before .before .before .before .reference .result) (c .before .before .before .before .before .before .before .before .before .before .before .before .before .before .before .before .before .before .reference2 .result) (c .before .before .before .before .before .before .before .before .before .before .before .before .before .before .before .before .set-node .last .0) (one .last .1 .0) (two .last .1 .0)
-    (c .before .before .before .before .before .before .before .before .before .before .before .before .before .before .before .before .before .before .before .before .reference .ensures) (c .before .before .before .before .before .before .before .before .before .before .before .before .before .before .before .before .before .before .reference2 .ensures) (c .before .before .before .before .before .before .before .before .before .before .before .before .before .before .before .before .set-node .ensures) (one .ensures) (rw e at (two .ensures))
+    finish _ _ _ _ _ _ _ _ _ K (at-reference .reference .result) (at-reference2 .reference2 .result) (at-set-node .set-node .last .0) (one .last .1 .0) (two .last .1 .0)
+    (at-reference .reference .ensures) (at-reference2 .reference2 .ensures) (at-set-node .set-node .ensures) (one .ensures) (rw e at (two .ensures))
 
 pub +build-spec : {M : Type 1} → statement M
 +build-spec = close μ-build λ t. build-lts.spec (calls t) (build-at t) build.Post

@@ -36,25 +36,35 @@ loop-less c = search needs
 
 loop-again : tie.Need-loop-again Inv-loop μ-loop
 loop-again c =
-    let a = c .before .before .before .before .before .before .before .args in
-    let l = c .before .before .before .loop in
-    let e = c .before .smaller-side2 .ensures in
-    (omega arith, omega arith, e, turn-yes (a .width) (signatureOf (a .signatures .now)) (a .group .now) (l .best) (l .position) _ (c .before .before .loop-test .taken) (rw (← (l .inv .2), ← e) (c .if1 .taken)) (l .inv .3))
+    let at-smaller-side2 = c .before in
+    let at-loop-test = at-smaller-side2 .before in
+    let at-loop = at-loop-test .before in
+    let at-start = at-loop .before .before .before .before in
+    let a = at-start .args in
+    let l = at-loop .loop in
+    let e = at-smaller-side2 .smaller-side2 .ensures in
+    (omega arith, omega arith, e, turn-yes (a .width) (signatureOf (a .signatures .now)) (a .group .now) (l .best) (l .position) _ (at-loop-test .loop-test .taken) (rw (← (l .inv .2), ← e) (c .if1 .taken)) (l .inv .3))
 
 loop-less-2 : tie.Need-loop-less-2 Inv-loop μ-loop
 loop-less-2 c = search needs
 
 loop-again-2 : tie.Need-loop-again-2 Inv-loop μ-loop
 loop-again-2 c =
-    let a = c .before .before .before .before .before .before .before .args in
-    let l = c .before .before .before .loop in
-    let e = c .before .smaller-side2 .ensures in
-    (omega arith, omega arith, l .inv .2, turn-no (a .width) (signatureOf (a .signatures .now)) (a .group .now) (l .best) (l .position) _ (c .before .before .loop-test .taken) (rw (← (l .inv .2), ← e) (c .if1 .left)) (l .inv .3))
+    let at-smaller-side2 = c .before in
+    let at-loop-test = at-smaller-side2 .before in
+    let at-loop = at-loop-test .before in
+    let at-start = at-loop .before .before .before .before in
+    let a = at-start .args in
+    let l = at-loop .loop in
+    let e = at-smaller-side2 .smaller-side2 .ensures in
+    (omega arith, omega arith, l .inv .2, turn-no (a .width) (signatureOf (a .signatures .now)) (a .group .now) (l .best) (l .position) _ (at-loop-test .loop-test .taken) (rw (← (l .inv .2), ← e) (c .if1 .left)) (l .inv .3))
 
 returns : tie.Need-returns Inv-loop μ-loop
 returns c =
-    let a = c .before .before .before .before .before .args in
-    let l = c .before .loop in
+    let at-loop = c .before in
+    let at-start = at-loop .before .before .before .before in
+    let a = at-start .args in
+    let l = at-loop .loop in
     (omega arith, turn-end (a .width) (signatureOf (a .signatures .now)) (a .group .now) (l .best) (l .position) _ (omega arith) (l .inv .3))
 
 pub best-position-spec : {M : Type 1} → statement M

@@ -33,7 +33,11 @@ shared-slice-read-block-bit c = search needs
 
 block-bit-requires : tie.Need-block-bit-requires Inv-loop μ-loop
 unfolding Blocks
-block-bit-requires c κs = (c .before .before .before .before .before .pre .0 (c .before .before .loop .i) (c .before .loop-test .taken), c .before .before .before .before .before .pre .1)
+block-bit-requires c κs =
+    let at-loop-test = c .before in
+    let at-loop = at-loop-test .before in
+    let at-start = at-loop .before .before .before in
+    (at-start .pre .0 (at-loop .loop .i) (at-loop-test .loop-test .taken), at-start .pre .1)
 
 cast-count : tie.Need-cast-count Inv-loop μ-loop
 cast-count c = search needs
@@ -49,16 +53,21 @@ loop-less c = search needs
 
 loop-again : tie.Need-loop-again Inv-loop μ-loop
 loop-again c =
-    let a = c .before .before .before .before .before .before .args in
-    let m = total-more (λ b. bitAt (a .width) (signatureOf (a .signatures .now) b) (a .position)) (a .group .now) (c .before .before .before .loop .i) (c .before .before .loop-test .taken) in
+    let at-loop-test = c .before .before in
+    let at-loop = at-loop-test .before in
+    let at-start = at-loop .before .before .before in
+    let a = at-start .args in
+    let m = total-more (λ b. bitAt (a .width) (signatureOf (a .signatures .now) b) (a .position)) (a .group .now) (at-loop .loop .i) (at-loop-test .loop-test .taken) in
     let s = c .block-bit .ensures .1 in
     (omega arith, omega arith, omega (arith, c .block-bit .ensures .0))
 
 returns : tie.Need-returns Inv-loop μ-loop
 returns c =
-    let a = c .before .before .before .before .args in
-    c .before .loop .inv .2
-    ∙ ap (total (λ b. bitAt (a .width) (signatureOf (a .signatures .now) b) (a .position))) (take-all (c .before .loop .i) (a .group .now) (c .loop-test .left))
+    let at-loop = c .before in
+    let at-start = at-loop .before .before .before in
+    let a = at-start .args in
+    at-loop .loop .inv .2
+    ∙ ap (total (λ b. bitAt (a .width) (signatureOf (a .signatures .now) b) (a .position))) (take-all (at-loop .loop .i) (a .group .now) (c .loop-test .left))
     ∙ sym (ones-total (a .width) (signatureOf (a .signatures .now)) (a .position) (a .group .now))
 
 pub ones-spec : {M : Type 1} → statement M

@@ -2,7 +2,7 @@
 -- Assumes nothing.
 use Prim.Native.Nat.{_-_}
 use native.Mathlib.Omega.{arith}
-use mathlib.Core.Path.{refl, sym, _∙_}
+use mathlib.Core.Path.{sym, _∙_}
 use lib.ListN.{length-set}
 use Rattle.model.specs.Tables.{signatureOf}
 use Rattle.split.proofs.Parting.{Parting, parting-start, parting-low, parting-high, parting-block, parting-end}
@@ -27,8 +27,11 @@ slice-read-block c = search needs
 
 block-bit-requires : tie.Need-block-bit-requires Inv-loop μ-loop
 block-bit-requires c κs =
-    let a = c .before .before .before .before .before .args in
-    (parting-block (a .width) (a .signatures .now) (a .position) _ _ _ _ (c .before .before .loop .inv) (c .before .loop-test .taken) (c .before .before .before .before .before .pre .0), c .before .before .before .before .before .pre .1)
+    let at-loop-test = c .before in
+    let at-loop = at-loop-test .before in
+    let at-start = at-loop .before .before .before in
+    let a = at-start .args in
+    (parting-block (a .width) (a .signatures .now) (a .position) _ _ _ _ (at-loop .loop .inv) (at-loop-test .loop-test .taken) (at-start .pre .0), at-start .pre .1)
 
 add-low : tie.Need-add-low Inv-loop μ-loop
 add-low c = search needs
@@ -37,7 +40,11 @@ loop-less : tie.Need-loop-less Inv-loop μ-loop
 loop-less c = search needs
 
 loop-again : tie.Need-loop-again Inv-loop μ-loop
-loop-again c = parting-low _ _ _ _ _ _ _ (c .before .before .before .before .loop .inv) (c .before .before .before .loop-test .taken) (sym (c .before .block-bit .ensures .0) ∙ c .if1 .taken)
+loop-again c =
+    let at-block-bit = c .before in
+    let at-loop-test = at-block-bit .before .before in
+    let at-loop = at-loop-test .before in
+    parting-low _ _ _ _ _ _ _ (at-loop .loop .inv) (at-loop-test .loop-test .taken) (sym (at-block-bit .block-bit .ensures .0) ∙ c .if1 .taken)
 
 sub-end : tie.Need-sub-end Inv-loop μ-loop
 sub-end c = search needs
@@ -64,7 +71,12 @@ loop-less-2 : tie.Need-loop-less-2 Inv-loop μ-loop
 loop-less-2 c = search needs
 
 loop-again-2 : tie.Need-loop-again-2 Inv-loop μ-loop
-loop-again-2 c = parting-high _ _ _ _ _ _ _ (c .before .before .before .before .before .loop .inv) (c .before .before .before .before .loop-test .taken) (λ z. c .before .if1 .left (c .before .before .block-bit .ensures .0 ∙ z))
+loop-again-2 c =
+    let at-if1 = c .before in
+    let at-block-bit = at-if1 .before in
+    let at-loop-test = at-block-bit .before .before in
+    let at-loop = at-loop-test .before in
+    parting-high _ _ _ _ _ _ _ (at-loop .loop .inv) (at-loop-test .loop-test .taken) (λ z. at-if1 .if1 .left (at-block-bit .block-bit .ensures .0 ∙ z))
 
 same-length : tie.Need-same-length Inv-loop μ-loop
 same-length c = c .before .loop .inv .len

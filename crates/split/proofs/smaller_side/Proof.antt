@@ -19,14 +19,18 @@ sub-left c =
 returns : tie.Need-returns
 unfolding smaller
 returns c =
-    let a = c .before .before .before .before .args in
-    omega (arith, sides-length (a .width) (signatureOf (a .signatures .now)) (a .position) (a .group .now), c .before .ones .ensures)
+    let at-ones = c .before in
+    let at-start = at-ones .before .before .before in
+    let a = at-start .args in
+    omega (arith, sides-length (a .width) (signatureOf (a .signatures .now)) (a .position) (a .group .now), at-ones .ones .ensures)
 
 returns-2 : tie.Need-returns-2
 unfolding smaller
 returns-2 c =
-    let a = c .before .before .before .before .args in
-    omega (arith, sides-length (a .width) (signatureOf (a .signatures .now)) (a .position) (a .group .now), c .before .ones .ensures)
+    let at-ones = c .before in
+    let at-start = at-ones .before .before .before in
+    let a = at-start .args in
+    omega (arith, sides-length (a .width) (signatureOf (a .signatures .now)) (a .position) (a .group .now), at-ones .ones .ensures)
 
 pub smaller-side-spec : {M : Type 1} → statement M
 smaller-side-spec =

@@ -15,7 +15,10 @@ same-length : tie.Need-same-length
 same-length c = search needs
 
 returns : tie.Need-returns
-returns c = halve _ _ _ _ _ _ (c .before .before .before .before .best-position .ensures .1) (c .before .before .partition .ensures)
+returns c =
+    let at-partition = c .before .before in
+    let at-best-position = at-partition .before .before in
+    halve _ _ _ _ _ _ (at-best-position .best-position .ensures .1) (at-partition .partition .ensures)
 
 pub split-spec : {M : Type 1} → statement M
 split-spec =

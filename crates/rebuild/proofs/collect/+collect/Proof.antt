@@ -3,7 +3,7 @@
 -- Assumes nothing.
 use Prim.Native.Nat.{ℕ, _-_, _<_}
 use native.Mathlib.Omega.{arith}
-use mathlib.Core.Path.{_≡_, sym, _∙_, ap, subst}
+use mathlib.Core.Path.{sym, ap, subst}
 use lib.ListN.{length}
 use lib.Seq.{sets}
 use borrow.Author.Needs.{needs}
@@ -58,8 +58,10 @@ mul-scratch t c = search needs
 
 slice-write-scratch : At collect-lts.Need-slice-write-scratch
 slice-write-scratch t c =
-    let s = c .before .before .before .before in
-    let e = heads-leaf (s .args .blocks) (s .args .links .now) (s .args .untested) (s .args .reference) (c .before .if1 .left) (c .if2 .taken) in
+    let at-if1 = c .before in
+    let at-start = at-if1 .before .before .before in
+    let s = at-start in
+    let e = heads-leaf (s .args .blocks) (s .args .links .now) (s .args .untested) (s .args .reference) (at-if1 .if1 .left) (c .if2 .taken) in
     omega (arith, ap length e, s .pre .1 .1 .1)
 
 add-result : At collect-lts.Need-add-result
@@ -70,8 +72,10 @@ same-length t c = search needs
 
 returns-2 : At collect-lts.Need-returns-2
 returns-2 t c =
-    let s = c .before .before .before .before in
-    let e = heads-leaf (s .args .blocks) (s .args .links .now) (s .args .untested) (s .args .reference) (c .before .if1 .left) (c .if2 .taken) in
+    let at-if1 = c .before in
+    let at-start = at-if1 .before .before .before in
+    let s = at-start in
+    let e = heads-leaf (s .args .blocks) (s .args .links .now) (s .args .untested) (s .args .reference) (at-if1 .if1 .left) (c .if2 .taken) in
     (omega (arith, ap length e), ap (sets (s .args .scratch .now) (s .args .at)) (sym e))
 
 sub-node : At collect-lts.Need-sub-node
@@ -94,22 +98,30 @@ sub-collect t c = onward t (c .before .before .before) .more
 
 collect-requires : At collect-lts.Need-collect-requires
 collect-requires t c κs =
-    let s = start t (c .before .before .before) in
-    let K = onward t (c .before .before .before) in
-    let e = c .before .before .side-of .ensures in
+    let at-side-of = c .before .before in
+    let at-if2 = at-side-of .before in
+    let s = start t at-if2 in
+    let K = onward t at-if2 in
+    let e = at-side-of .side-of .ensures in
     let heads : ℕ → ℕ = λ r. length (headsFrom (s .args .blocks) (s .args .links .now) (s .args .untested - 1) r) in
     (omega (arith, K .more, s .pre .0), (s .pre .1 .0, (subst (Walkable (s .args .blocks) (s .args .links .now) (s .args .untested - 1)) (sym e) (K .left), omega (arith, s .pre .1 .1 .1, onward-count _ _ _ _ K, ap heads e))))
 
 sub-collect-2 : At collect-lts.Need-sub-collect-2
-sub-collect-2 t c = onward t (c .before .before .before .before .before .before .before) .more
+sub-collect-2 t c =
+    let at-if2 = c .before .before .before .before .before .before .before in
+    onward t at-if2 .more
 
 collect-requires-2 : At collect-lts.Need-collect-requires-2
 collect-requires-2 t c κs =
-    let s = start t (c .before .before .before .before .before .before .before) in
-    let K = onward t (c .before .before .before .before .before .before .before) in
-    let e = c .before .before .before .before .before .before .side-of .ensures in
-    let f = c .before .before .before .before .before .side-of2 .ensures in
-    let one = c .before .before .before .collect in
+    let at-collect = c .before .before .before in
+    let at-side-of2 = at-collect .before .before in
+    let at-side-of = at-side-of2 .before in
+    let at-if2 = at-side-of .before in
+    let s = start t at-if2 in
+    let K = onward t at-if2 in
+    let e = at-side-of .side-of .ensures in
+    let f = at-side-of2 .side-of2 .ensures in
+    let one = at-collect .collect in
     let heads : ℕ → ℕ = λ r. length (headsFrom (s .args .blocks) (s .args .links .now) (s .args .untested - 1) r) in
     (omega (arith, K .more, s .pre .0), (s .pre .1 .0, (subst (Walkable (s .args .blocks) (s .args .links .now) (s .args .untested - 1)) (sym f) (K .right), omega (arith, s .pre .1 .1 .1, onward-count _ _ _ _ K, one .ensures .0, one .kept .1 .0, ap heads e, ap heads f))))
 
@@ -118,10 +130,15 @@ same-length-2 t c = search needs
 
 returns-3 : At collect-lts.Need-returns-3
 returns-3 t c =
-    let K = onward t (c .before .before .before .before .before .before .before .before .before .before) in
-    let one = c .before .before .before .before .before .before .collect in
-    let two = c .before .before .collect2 in
-    onward-end _ _ _ _ K _ _ _ _ _ _ _ _ (c .before .before .before .before .before .before .before .before .before .side-of .ensures) (c .before .before .before .before .before .before .before .before .side-of2 .ensures) (one .ensures .0) (one .ensures .1) (two .ensures .0) (two .ensures .1)
+    let at-collect2 = c .before .before in
+    let at-collect = at-collect2 .before .before .before .before in
+    let at-side-of2 = at-collect .before .before in
+    let at-side-of = at-side-of2 .before in
+    let at-if2 = at-side-of .before in
+    let K = onward t at-if2 in
+    let one = at-collect .collect in
+    let two = at-collect2 .collect2 in
+    onward-end _ _ _ _ K _ _ _ _ _ _ _ _ (at-side-of .side-of .ensures) (at-side-of2 .side-of2 .ensures) (one .ensures .0) (one .ensures .1) (two .ensures .0) (two .ensures .1)
 
 pub +collect-spec : {M : Type 1} → statement M
 +collect-spec = close μ-collect λ t. collect-lts.spec (calls t) (collect-at t) collect.Post

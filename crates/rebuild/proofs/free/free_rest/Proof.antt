@@ -40,19 +40,27 @@ loop-less c = search needs
 
 loop-again : tie.Need-loop-again Inv-loop μ-loop
 loop-again c =
-    let l = c .before .before .before .before .before .before .loop in
-    let w = c .before .before .set-node in (
+    let at-set-node = c .before .before in
+    let at-free-from = at-set-node .before in
+    let at-loop-test = at-free-from .before .before in
+    let at-loop = at-loop-test .before in
+    let at-start = at-loop .before .before in
+    let l = at-loop .loop in
+    let w = at-set-node .set-node in (
       omega (arith, l .inv),
-      omega (arith, c .before .before .before .before .before .loop-test .taken),
+      omega (arith, at-loop-test .loop-test .taken),
       w .kept .0 ∙ l .inv .2,
-      free-turn (c .before .before .before .before .before .before .before .before .args .blocks) (l .i) (c .before .before .before .free-from .result) (l .links) (w .last .0) _ (c .before .before .before .before .before .loop-test .taken) (c .before .before .before .free-from .ensures) (w .ensures) (l .inv .3),
+      free-turn (at-start .args .blocks) (l .i) (at-free-from .free-from .result) (l .links) (w .last .0) _ (at-loop-test .loop-test .taken) (at-free-from .free-from .ensures) (w .ensures) (l .inv .3),
     )
 
 same-length : tie.Need-same-length Inv-loop μ-loop
 same-length c = search needs
 
 returns : tie.Need-returns Inv-loop μ-loop
-returns c = free-end (c .before .before .before .args .blocks) (c .before .loop .i) (c .before .loop .links) _ (omega arith) (c .before .loop .inv .3)
+returns c =
+    let at-loop = c .before in
+    let at-start = at-loop .before .before in
+    free-end (at-start .args .blocks) (at-loop .loop .i) (at-loop .loop .links) _ (omega arith) (at-loop .loop .inv .3)
 
 pub free-rest-spec : {M : Type 1} → statement M
 free-rest-spec =
