@@ -1,6 +1,11 @@
 // The public face: what C and Rust call, with plain numbers and slices. Each function hands on to the crate of its call, whose promise
 // it repeats; no function here asks anything of its caller.
-ghost use Rattle.model.specs.Promises.{ClearPromise, FilePromise, WithdrawPromise, AuditPromise};
+mod slip;
+
+pub use slip::carry_out;
+ghost use Rattle.model.specs.Promises.{ClearPromise, FilePromise, WithdrawPromise, RebuildPromise, SearchPromise, AuditPromise};
+ghost use Rattle.model.specs.Lists.{SlipPromise};
+ghost use Rattle.sigtree.specs.Face.{lent, reported};
 ghost use Rattle.model.specs.Words.{SignPromise, PlacePromise};
 
 // Empties the index and sets its width.
@@ -32,12 +37,63 @@ pub extern "C" fn sigtree_withdraw(signatures: &mut [u64], links: &mut [u32], bl
     withdraw::withdraw(signatures, links, block)
 }
 
+// Makes the tree anew.
+#[no_mangle]
+pub extern "C" fn sigtree_rebuild(signatures: &[u64], links: &mut [u32], scratch: &mut [u32]) -> u32
+    ensures { λ r. ⌜ RebuildPromise (now (signatures .entry)) (now (links .entry)) (now (scratch .entry)) r (now (links .exit)) (now (scratch .exit)) ⌝ }
+{
+    rebuild::rebuild(signatures, links, scratch)
+}
+
+// Lists the filed blocks whose signature covers the query.
+#[no_mangle]
+pub extern "C" fn sigtree_search(
+    signatures: &[u64],
+    links: &[u32],
+    query: u64,
+    marks: &mut [u8],
+    output: &mut [u32],
+    found: &mut u32,
+    compares: &mut u32,
+    bits: &mut u32,
+) -> u32
+    ensures { λ r. ⌜ SearchPromise (now (signatures .entry)) (now (links .entry)) query (now (marks .entry)) (now (output .entry)) (reported r (now (found .exit)) (now (compares .exit)) (now (bits .exit))) (now (marks .exit)) (now (output .exit)) ⌝ }
+{
+    let report = search::search(signatures, links, query, marks, output);
+    *found = report.found;
+    *compares = report.compares;
+    *bits = report.bits;
+    report.answer
+}
+
 // Are the tables sound?
 #[no_mangle]
 pub extern "C" fn sigtree_audit(signatures: &[u64], links: &[u32]) -> u32
     ensures { λ r. ⌜ AuditPromise (now (signatures .entry)) (now (links .entry)) r ⌝ }
 {
     audit::audit(signatures, links)
+}
+
+// Carries out a slip: any bytes of any length.
+#[no_mangle]
+pub extern "C" fn sigtree_slip(
+    slip: &[u8],
+    signatures: &mut [u64],
+    links: &mut [u32],
+    scratch: &mut [u32],
+    marks: &mut [u8],
+    output: &mut [u32],
+    found: &mut u32,
+    compares: &mut u32,
+    bits: &mut u32,
+) -> u32
+    ensures { λ r. ⌜ SlipPromise (now (slip .entry)) (lent (now (signatures .entry)) (now (links .entry)) (now (scratch .entry)) (now (marks .entry)) (now (output .entry))) (reported r (now (found .exit)) (now (compares .exit)) (now (bits .exit))) (lent (now (signatures .exit)) (now (links .exit)) (now (scratch .exit)) (now (marks .exit)) (now (output .exit))) ⌝ }
+{
+    let report = slip::carry_out(slip, signatures, links, scratch, marks, output);
+    *found = report.found;
+    *compares = report.compares;
+    *bits = report.bits;
+    report.answer
 }
 
 // The signature of a text.

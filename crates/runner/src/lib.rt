@@ -1,0 +1,130 @@
+// Serves slips from standard input and prints a line for each. The slices are the caller's: the two tables, those to work in, a buffer
+// of input and a buffer of text. A line is written as soon as its slip is complete, and no byte of it is dropped.
+mod input;
+mod text;
+
+ghost use mathlib.Core.Path.{_≡_};
+ghost use Prim.Native.Nat.{_+_, _*_, _≤_, _<_};
+ghost use lib.ListN.{length};
+ghost use Rattle.sigtree.specs.Face.{lent};
+ghost use Rattle.runner.specs.Served.{Served};
+
+// How long a slip is.
+const SLIP: usize = 16;
+
+// Carries out one slip and puts its line after the first `at` bytes of the text.
+fn serve_one(
+    signatures: &mut [u64],
+    links: &mut [u32],
+    scratch: &mut [u32],
+    marks: &mut [u8],
+    output: &mut [u32],
+    slip: &[u8],
+    text: &mut [u8],
+    at: usize,
+) -> usize
+    requires { ⌜ (0 < length (now slip)) × (at + 48 + 11 * length (now output) ≤ length (now text)) ⌝ }
+    ensures { λ r. ⌜ Served (now (slip .entry)) (lent (now (signatures .entry)) (now (links .entry)) (now (scratch .entry)) (now (marks .entry)) (now (output .entry))) (lent (now (signatures .exit)) (now (links .exit)) (now (scratch .exit)) (now (marks .exit)) (now (output .exit))) (now (text .entry)) at r (now (text .exit)) ⌝ }
+{
+    let report = sigtree::carry_out(slip, signatures, links, scratch, marks, output);
+    lines::line(
+        text,
+        at,
+        slip[0],
+        report.answer,
+        report.found,
+        report.compares,
+        report.bits,
+        output,
+    )
+}
+
+// Serves every whole slip of the first `end` bytes of input, and answers where the rest begins.
+fn drain(
+    signatures: &mut [u64],
+    links: &mut [u32],
+    scratch: &mut [u32],
+    marks: &mut [u8],
+    output: &mut [u32],
+    bytes: &[u8],
+    end: usize,
+    text: &mut [u8],
+) -> usize
+    requires { ⌜ (end ≤ length (now bytes)) × (48 + 11 * length (now output) ≤ length (now text)) ⌝ }
+    ensures { λ r. ⌜ (r ≤ end) × (end < r + 16) ⌝ }
+{
+    let most = 48 + 11 * output.len();
+    let mut at = 0;
+    let mut used = 0;
+    while end - at >= SLIP {
+        used = text::room(text, used, most);
+        used = serve_one(
+            signatures,
+            links,
+            scratch,
+            marks,
+            output,
+            &bytes[at..at + SLIP],
+            text,
+            used,
+        );
+        at += SLIP;
+    }
+    text::flush(text, used);
+    at
+}
+
+// The last slip, which is short: the bytes that are left.
+fn last(
+    signatures: &mut [u64],
+    links: &mut [u32],
+    scratch: &mut [u32],
+    marks: &mut [u8],
+    output: &mut [u32],
+    bytes: &[u8],
+    kept: usize,
+    text: &mut [u8],
+)
+    requires { ⌜ (kept ≤ length (now bytes)) × (48 + 11 * length (now output) ≤ length (now text)) ⌝ }
+{
+    if kept > 0 {
+        let used = serve_one(
+            signatures,
+            links,
+            scratch,
+            marks,
+            output,
+            &bytes[0..kept],
+            text,
+            0,
+        );
+        text::flush(text, used);
+    }
+}
+
+// Serves slips until the input ends. Nothing says that it ends, so the loop counts its turns down from a number that no run uses up. A
+// text that is too short for a line serves nothing.
+pub fn serve(
+    signatures: &mut [u64],
+    links: &mut [u32],
+    scratch: &mut [u32],
+    marks: &mut [u8],
+    output: &mut [u32],
+    bytes: &mut [u8],
+    text: &mut [u8],
+)
+    requires { ⌜ (length (now output) ≤ 65535) × (48 + 11 * length (now output) ≤ length (now text)) ⌝ }
+{
+    let mut turns = u64::MAX;
+    let mut kept = 0;
+    while turns > 0 {
+        let end = input::fill(bytes, kept);
+        if end == kept {
+            last(signatures, links, scratch, marks, output, bytes, kept, text);
+            return;
+        }
+        let from = drain(signatures, links, scratch, marks, output, bytes, end, text);
+        kept = input::shift(bytes, from, end);
+        turns -= 1;
+    }
+}
