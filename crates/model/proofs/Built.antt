@@ -5,19 +5,19 @@ use Prim.Native.Nat.{ℕ, zero, suc, _+_, _^_, _≤_, _<_, min}
 use native.Mathlib.Omega.{arith}
 use mathlib.Core.Path.{_≡_, refl, sym, _∙_, ap}
 use mathlib.Core.Logic.{_⊎_, inl, inr, _≢_}
-use mathlib.Core.List.{List, [], _∷_, _++_, List·Memᴰ, List·Memᴰ·head, List·Memᴰ·tail, List·Memᴰ·not-nil}
+use mathlib.Core.List.{List, [], _∷_, List·Memᴰ, List·Memᴰ·head, List·Memᴰ·tail, List·Memᴰ·not-nil}
 use lib.Dec.{eqb}
 use lib.ListN.{length}
 use borrow.Author.Tests.{eqb-true, eq-eqb, ne-eqb}
 use Rattle.model.specs.Basics.{keep}
 use Rattle.model.specs.Signature.{bitAt, firstDifference}
-use Rattle.model.specs.Tree.{Tree, signatures, Edge, edge, Agrees, Untested}
+use Rattle.model.specs.Tree.{Tree, signatures, Edge, edge, Agrees}
 use Rattle.model.specs.Build.{side, smaller, bestPosition, buildWithin, build}
 use Rattle.model.proofs.Bits.{bit-cases}
 use Rattle.model.proofs.Pigeon.{Distinct}
-use Rattle.model.proofs.Members.{total, Same, total-one}
+use Rattle.model.proofs.Members.{total, total-append, Same, total-one}
 use Rattle.model.proofs.Keep.{keep-yes, keep-no, keep-in, in-keep, keep-distinct}
-use Rattle.model.proofs.Trees.{Below, Proper}
+use Rattle.model.proofs.Trees.{Below, Proper, untested}
 use Rattle.model.proofs.Best.{best-position}
 use Rattle.model.proofs.Differ.{first-differs}
 
@@ -28,15 +28,6 @@ some-in (x ∷ l) h = (x, List·Memᴰ·head refl)
 in-some : (l : List ℕ) (x : ℕ) → List·Memᴰ x l → 1 ≤ length l
 in-some [] x m = absurd (List·Memᴰ·not-nil m)
 in-some (y ∷ l) x m = omega arith
-
-total-append : (f : ℕ → ℕ) (k l : List ℕ) → total f (k ++ l) ≡ total f k + total f l
-total-append f [] l = omega arith
-total-append f (x ∷ k) l = omega (arith, total-append f k l)
-
--- no position of a path is one where two signatures that agree with it differ
-pub untested : (F s u p : ℕ) (es : List Edge) → Agrees F s es → Agrees F u es → bitAt F s p ≢ bitAt F u p → Untested p es
-untested F s u p [] g h n = tt
-untested F s u p (edge x e ∷ es) g h n = ((λ i. n (ap (bitAt F s) i ∙ g .0 ∙ sym (h .0) ∙ ap (bitAt F u) (sym i))), untested F s u p es (g .1) (h .1) n)
 
 module _ (F : ℕ) where
   -- the side of a split with bit e

@@ -12,6 +12,9 @@ pub mod Build
 pub mod Best
 pub mod Differ
 pub mod Built
+pub mod Insert
+pub mod Remove
+pub mod Entered
 pub mod Matching
 pub mod Eleven
 pub mod Marked

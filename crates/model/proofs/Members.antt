@@ -5,7 +5,7 @@ use native.Mathlib.Omega.{arith}
 use mathlib.Core.Path.{_≡_, refl, sym, _∙_, ap}
 use mathlib.Core.Logic.{_⊎_, inl, inr}
 use mathlib.Core.Bool.{Bool, true, false}
-use mathlib.Core.List.{List, [], _∷_, List·Memᴰ, List·Memᴰ·head, List·Memᴰ·tail, List·Memᴰ·cases-cons, List·Memᴰ·not-nil, Memᴰ·cast}
+use mathlib.Core.List.{List, [], _∷_, _++_, List·Memᴰ, List·Memᴰ·head, List·Memᴰ·tail, List·Memᴰ·cases-cons, List·Memᴰ·not-nil, Memᴰ·cast}
 use lib.Dec.{eqb}
 use lib.ListN.{length}
 use borrow.Author.Tests.{eqb-true, eqb-false}
@@ -88,6 +88,10 @@ once-distinct (x ∷ xs) = go (has x xs) refl (once-distinct xs)
 abbrev pub total : (ℕ → ℕ) → List ℕ → ℕ
 total f [] = 0
 total f (x ∷ l) = f x + total f l
+
+pub total-append : (f : ℕ → ℕ) (k l : List ℕ) → total f (k ++ l) ≡ total f k + total f l
+total-append f [] l = omega arith
+total-append f (x ∷ k) l = omega (arith, total-append f k l)
 
 -- the same elements, each as often
 abbrev pub Same : List ℕ → List ℕ → Type 0

@@ -4,7 +4,7 @@
 use Prim.Native.Nat.{ℕ, suc, _+_, _≤_, max}
 use native.Mathlib.Omega.{arith}
 use mathlib.Core.Path.{_≡_, sym, _∙_, ap, subst}
-use mathlib.Core.Logic.{_⊎_, inl, inr, ⊎-elim}
+use mathlib.Core.Logic.{_⊎_, inl, inr, ⊎-elim, _≢_}
 use mathlib.Core.List.{List, [], _∷_, List·Memᴰ, List·Memᴰ·cases-cons, List·Memᴰ·not-nil, List·Memᴰ·append-cases}
 use lib.ListN.{length}
 use borrow.Author.Tests.{eq-eqb}
@@ -56,6 +56,11 @@ tested-more F p e es a b u d = ((untested-new p es u, d .0), λ x m. go x (List�
     go : (x : ℕ) → (x ≡ p) ⊎ List·Memᴰ x (positions es) → List·Memᴰ x (upFrom F 1)
     go x (inl h) = upFrom-has F 1 x (omega arith) (omega arith)
     go x (inr n) = d .1 x n
+
+-- no position of a path is one where two signatures that agree with it differ
+pub untested : (F s u p : ℕ) (es : List Edge) → Agrees F s es → Agrees F u es → bitAt F s p ≢ bitAt F u p → Untested p es
+untested F s u p [] g h n = tt
+untested F s u p (edge x e ∷ es) g h n = ((λ i. n (ap (bitAt F s) i ∙ g .0 ∙ sym (h .0) ∙ ap (bitAt F u) (sym i))), untested F s u p es (g .1) (h .1) n)
 
 module _ (F : ℕ) where
   -- a path has at most F nodes
