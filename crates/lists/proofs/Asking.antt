@@ -1,15 +1,15 @@
 -- The questions asked of sound tables and of their ledger get the same answers, since the ledger has the tables' width, their number
 -- of blocks, and a pair exactly where a filed word is other than 0.
 -- Assumes nothing.
-use Prim.Native.Nat.{ℕ, _^_, _≤_, _<_}
+use Prim.Native.Nat.{ℕ, _≤_}
 use native.Mathlib.Omega.{arith}
 use mathlib.Core.Path.{_≡_, refl, sym, _∙_, ap}
 use mathlib.Core.Logic.{_≢_}
-use mathlib.Core.Bool.{Bool, true, false, not, _&&_}
+use mathlib.Core.Bool.{Bool, true, false, _&&_}
 use mathlib.Core.List.{List}
 use lib.Dec.{eqb, leb}
 use lib.ListN.{length}
-use borrow.Author.Tests.{leb-true, ltb-true, eqb-true, eqb-false, not-true, le-leb, eq-eqb}
+use borrow.Author.Tests.{leb-true, eqb-false, not-true, le-leb, eq-eqb}
 use Rattle.model.specs.Limits.{widest, mostBlocks}
 use Rattle.model.specs.Tables.{linksOf, widthOf, toldBlocks, filedOf}
 use Rattle.model.specs.Sound.{Sound}
@@ -56,20 +56,6 @@ module _ (sigs links : List ℕ) where
   clear-fits F e =
       let r = ask-zero 4 _ 0 (omega arith) e in
       in-range F widest (both (asksTables sigs links .lengths) (widthFits F) (r .0) .1)
-
-  pub file-fits : (b s : ℕ) → fileRefusal (asksTables sigs links) b s ≡ 0 → (1 ≤ b) × (b ≤ length sigs) × (s < 2 ^ widthOf links) × (filedOf links b ≡ 0)
-  unfolding fileRefusal
-  file-fits b s e =
-      let r = ask-zero 4 _ _ (omega arith) e in
-      let x = ask-zero 5 _ _ (omega arith) (r .1) in
-      let y = ask-zero 6 _ _ (omega arith) (x .1) in
-      let z = ask-zero 7 _ _ (omega arith) (y .1) in
-      let g = in-range b (length sigs) (x .0) in
-      (g .0, g .1, ltb-true s (2 ^ widthOf links) (y .0), eqb-true (filedOf links b) 0 (twice (eqb (filedOf links b) 0) (z .0)))
-    where
-      twice : (t : Bool) → not (not t) ≡ true → t ≡ true
-      twice true e = refl
-      twice false e = e
 
   pub withdraw-fits : (b : ℕ) → withdrawRefusal (asksTables sigs links) b ≡ 0 → (1 ≤ b) × (b ≤ length sigs) × (filedOf links b ≢ 0)
   unfolding withdrawRefusal

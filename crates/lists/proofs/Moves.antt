@@ -22,12 +22,12 @@ use Rattle.tables.proofs.Entries.{entry-pair, entries-length, entries-of}
 use Rattle.tables.proofs.Holders.{stored-holder, holder-stored}
 use Rattle.tables.proofs.Stored.{sound-proper, stored-leaf}
 use Rattle.clear.proofs.Cleared.{clear-sound, clear-tree, clear-ledger}
-use Rattle.file.proofs.Good.{Fileable}
-use Rattle.file.proofs.Filed.{file-sound, file-tree, file-ledger}
-use Rattle.withdraw.proofs.Withdrawn.{withdraw-sound, Another, withdraw-stays, withdraw-loses, withdraw-lengths, withdraw-own, withdraw-others, withdraw-ledger}
+use Rattle.file.proofs.Filed.{fileable, file-sound, file-tree, file-ledger}
+use Rattle.withdraw.proofs.Withdrawing.{Another}
+use Rattle.withdraw.proofs.Withdrawn.{withdraw-sound, withdraw-stays, withdraw-loses, withdraw-lengths, withdraw-own, withdraw-others, withdraw-ledger}
 use Rattle.rebuild.proofs.Kept.{rebuild-sound, rebuild-stored, rebuild-ledger}
 use Rattle.lists.specs.Moves.{Moves}
-use Rattle.lists.proofs.Asking.{clear-fits, file-fits, withdraw-fits}
+use Rattle.lists.proofs.Asking.{clear-fits, withdraw-fits}
 
 module _ (sigs links : List ℕ) (S : Sound sigs links) where
   pub clear-moves : (F : ℕ) → clearRefusal (asksTables sigs links) F ≡ 0 → Moves sigs links (clear F) (clearSignatures (length sigs)) (clearLinks (length sigs) F)
@@ -43,8 +43,7 @@ module _ (sigs links : List ℕ) (S : Sound sigs links) where
 
   pub file-moves : (b s : ℕ) → fileRefusal (asksTables sigs links) b s ≡ 0 → Moves sigs links (file b s) (fileSignatures sigs b s) (fileLinks sigs links b s)
   file-moves b s e =
-      let f = file-fits sigs links b s e in
-      let Q : Fileable S b s = record { from = f .0; to = f .1; unfiled = f .3; small = f .2 } in
+      let Q = fileable S b s e in
       record { sound = file-sound S b s Q; ledger = file-ledger S b s Q; tree = file-tree S b s Q ∙ go (isStored s (ledgerOf sigs links)) refl }
     where
       go : (t : Bool) → isStored s (ledgerOf sigs links) ≡ t → insert (widthOf links) s (treeOf sigs links) ≡ grown (ledgerOf sigs links) (treeOf sigs links) (file b s)
