@@ -1,5 +1,5 @@
 -- What Rebuild does to sound tables, said of `rebuildLinks`: they stay sound; their tree is made anew from the stored signatures and
--- depends on the set of these alone; width, count, rows and so the ledger stay; nodes are numbered in order, and the rest are free.
+-- depends on the set of these alone; width, count, rows, heads and so the ledger stay; nodes are numbered in order, and the rest are free.
 -- Assumes nothing.
 use Prim.Native.Nat.{ℕ, zero, suc, _+_, _-_, _≤_, _<_, max}
 use native.Mathlib.Omega.{arith}
@@ -13,7 +13,7 @@ use Rattle.model.specs.Tree.{signatures}
 use Rattle.model.specs.Build.{build}
 use Rattle.model.specs.Tables.{nextAt, filedAt, widthOf, toldBlocks, rootOf, countOf, nextOf, filedOf, signatureOf, treeFrom, treeOf}
 use Rattle.model.specs.Sound.{nodesIn, SoundAt, Sound}
-use Rattle.model.specs.Rebuild.{headsOf, rebuildLinks}
+use Rattle.model.specs.Rebuild.{headsFrom, headsOf, rebuildLinks}
 use Rattle.model.specs.Ledger.{Entry, unfiled, pair, entryIn, entriesFrom, ledgerOf, isStored, stored}
 use Rattle.model.proofs.Members.{Same, same-members, once-distinct, in-once, once-in, in-has, has-in}
 use Rattle.model.proofs.Build.{build-same}
@@ -78,6 +78,10 @@ module _ (sigs links : List ℕ) (S : Sound sigs links) where
   -- and so from the stored signatures
   pub rebuild-stored : treeOf sigs (rebuildLinks sigs links) ≡ build (widthOf links) (stored (ledgerOf sigs links))
   rebuild-stored = rebuild-tree ∙ sym (build-same (widthOf links) (stored (ledgerOf sigs links)) (signatures (treeOf sigs links)) (stored-leaves sigs links S))
+
+  -- the heads stay, in the order of the new tree
+  pub rebuild-heads : Same (headsOf sigs (rebuildLinks sigs links)) (headsOf sigs links)
+  rebuild-heads = subst (λ (F : ℕ). Same (headsFrom (length sigs) after F (rootOf after)) (headsOf sigs links)) (sym (rebuild-unchanged .width)) (rebuilt sigs links S .heads)
 
   -- the ledger stays
   pub rebuild-ledger : ledgerOf sigs (rebuildLinks sigs links) ≡ ledgerOf sigs links

@@ -15,8 +15,9 @@ use Rattle.model.specs.Build.{build, buildWithin}
 use Rattle.model.specs.Tables.{positionAt, nextAt, filedAt, widthOf, rootOf, freeOf, nextOf, filedOf, signatureOf, treeOf}
 use Rattle.model.specs.Sound.{Rooted, none, some, HoldsRoot, PlacedRoot, nodesIn, blocksIn, filedUpTo, FitsAt, SoundAt, Sound}
 use Rattle.model.specs.Clear.{freeNodes}
-use Rattle.model.specs.Rebuild.{headsOf, groupNodes, groupLinks}
+use Rattle.model.specs.Rebuild.{headsFrom, headsOf, groupNodes, groupLinks}
 use Rattle.model.proofs.Keep.{upFrom-has}
+use Rattle.model.proofs.Members.{Same}
 use Rattle.tables.proofs.Shapes.{chain-same, chain-range}
 use Rattle.tables.proofs.Counts.{heads}
 use Rattle.tables.proofs.Trees.{depth-root, treeShape, treeRooted, tree-of-sound}
@@ -24,7 +25,7 @@ use Rattle.split.specs.Split.{Apart, Below}
 use Rattle.tables.proofs.Spelled.{Spells, spells-append, free-chain}
 use Rattle.rebuild.proofs.Laid.{tree-end, laid-long, laid-width, laid-told, laid-root, laid-free, laid-count, laid-row, laid-nodes}
 use Rattle.rebuild.proofs.Heads.{Heads, heads-some, headsFrom-shape, headsFrom-none, chainIn, heads-apart, heads-chains, heads-cover, heads-few}
-use Rattle.rebuild.proofs.Shaped.{shapeOf, nodes-order, blocks-all, holds-shape, placed-shape}
+use Rattle.rebuild.proofs.Shaped.{shapeOf, nodes-order, heads-stay, blocks-all, holds-shape, placed-shape}
 use Rattle.rebuild.proofs.Tree.{signatures-heads, tree-shape}
 
 filed-same : (L L′ : List ℕ) (n : ℕ) → ((c : ℕ) → 1 ≤ c → c ≤ n → filedOf L′ c ≡ filedOf L c) → filedUpTo L′ n ≡ filedUpTo L n
@@ -121,12 +122,13 @@ module _ (sigs links : List ℕ) (S : Sound sigs links) where
         place i h h′ (yes q) = inl (rw numbered (upFrom-has (length g - 1) 1 i h (omega arith)))
         place i h h′ (no q) = inr (upFrom-has (B - from) from i (omega arith) (omega arith))
 
-  -- sound tables with this tree, its nodes in order from 1 on, and the rest free, ascending
+  -- sound tables with this tree, its nodes in order from 1 on, the rest free, ascending, and the heads as they were
   pub record Made (g : List ℕ) (t : Tree) : Type 0 where
     pub sound : SoundAt (length sigs) (widthOf links) sigs (groupLinks sigs links g)
     pub tree : treeRooted sigs (sound .tree) ≡ t
     pub numbered : nodesIn (sound .tree) ≡ upFrom (length g - 1) 1
     pub free : sound .free ≡ upFrom (length sigs - max 1 (length g)) (max 1 (length g))
+    pub heads : Same (headsFrom (length sigs) (groupLinks sigs links g) (widthOf links) (rootOf (groupLinks sigs links g))) g
 
   -- of a group with a head for every filed block
   made-group : (g : List ℕ) (ch : ℕ → List ℕ) → Apart sigs g → length g ≤ B → 1 ≤ length g → ((b : ℕ) → List·Memᴰ b g → Heads B sigs links b (ch b))
@@ -144,6 +146,7 @@ module _ (sigs links : List ℕ) (S : Sound sigs links) where
         tree = tree-shape F sigs ch all-below (length g) g 1 apart n (omega arith);
         numbered = order;
         free = refl;
+        heads = rw (headsFrom-shape B L (shapeOf F sigs ch (length g) g 1) F (rootOf L) holds′ (depth-root F sigs L (shapeOf F sigs ch (length g) g 1) placed′)) (heads-stay F sigs ch all-below (length g) g 1 apart n (omega arith));
       }
 
   -- of no heads
@@ -154,6 +157,7 @@ module _ (sigs links : List ℕ) (S : Sound sigs links) where
     tree = refl;
     numbered = refl;
     free = refl;
+    heads = rw (headsFrom-none B (groupLinks sigs links []) F (rootOf (groupLinks sigs links [])) (laid-root sigs links [] (S .fits) all-below (λ v. omega arith) (omega arith))) (λ f. refl);
   }
 
   made : (t : Rooted) → HoldsRoot B links (rootOf links) t → PlacedRoot F sigs links t → ((b : ℕ) → 1 ≤ b → b ≤ B → filedOf links b ≡ 1 → List·Memᴰ b (blocksIn t))

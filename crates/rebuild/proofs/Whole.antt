@@ -77,15 +77,14 @@ module _ (sigs links l l1 : List ℕ) (d : ℕ) (K : Collected sigs links l l1 d
   pub few : d ≤ length sigs
   few = omega (arith, G .few, count)
 
-  pub long : length l1 ≡ length l
+  long : length l1 ≡ length l
   long = ap length (K .list) ∙ length-sets l 0 heads
 
   pub fits : d ≤ length l1
   fits = omega (arith, few, long, K .room)
 
   collected : take d l1 ≡ heads
-  collected =
-      rw (K .list, count) (sets-front l heads (omega (arith, G .few, K .room)))
+  collected = rw (K .list, count) (sets-front l heads (omega (arith, G .few, K .room)))
 
   group : Group F sigs heads
   group = record { from = S .fits .width-from; to = S .fits .width-to; blocks = all-blocks B heads (G .blocks); below = all-below sigs links S; apart = G .apart }
