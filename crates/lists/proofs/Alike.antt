@@ -9,8 +9,9 @@ use lib.Dec.{eqb}
 use Rattle.model.specs.Tree.{Tree}
 use Rattle.model.specs.Questions.{Asked, Work, Call, clear, file, withdraw, rebuild, search, audit, refusal, Reading, refused, carries}
 use Rattle.model.specs.Ledger.{Ledger, asksLedger, ledgerAfter, treeAfter, Report, bare, doneBy, reportBy}
-use Rattle.model.specs.Lists.{reading, Step}
-use Rattle.model.specs.Claim.{Claim}
+use Rattle.model.specs.Lists.{reading, Step, Run}
+use Rattle.model.specs.Claim.{Claim, Begins}
+use Rattle.lists.proofs.Demand.{demand}
 use Rattle.lists.specs.Alike.{SameLengths, Alike, reports}
 
 refusal-alike : (A : Asked) (W W′ : Work) → SameLengths W W′ → (c : Call) → refusal A W c ≡ refusal A W′ c
@@ -34,7 +35,7 @@ module _ (L : Ledger) (t : Tree) (W W′ : Work) (l : SameLengths W W′) where
   report-alike (refused n) = refl
   report-alike (carries c) = ap (λ (n : ℕ). elim (eqb n 0) [ true ↦ doneBy L t c | false ↦ bare n ]) (refusal-alike (asksLedger L) W W′ l c)
 
-pub same-reports : (L : Ledger) (t : Tree) (sigs links sigs′ links′ : List ℕ) (ss us : List Step) → Alike ss us → Claim L t sigs links ss → Claim L t sigs′ links′ us → reports ss ≡ reports us
+same-reports : (L : Ledger) (t : Tree) (sigs links sigs′ links′ : List ℕ) (ss us : List Step) → Alike ss us → Claim L t sigs links ss → Claim L t sigs′ links′ us → reports ss ≡ reports us
 same-reports L t sigs links sigs′ links′ [] [] a x y = refl
 same-reports L t sigs links sigs′ links′ [] (u ∷ us) a x y = absurd a
 same-reports L t sigs links sigs′ links′ (s ∷ ss) [] a x y = absurd a
@@ -46,3 +47,8 @@ same-reports L t sigs links sigs′ links′ (s ∷ ss) (u ∷ us) a x y =
     let y′ = subst (λ (v : Tree). Claim (ledgerAfter L (s .lent) (reading (s .request))) v (u .left .signatures) (u .left .links) us) f
     (subst (λ (M : Ledger). Claim M (treeAfter L t (u .lent) (reading (u .request))) (u .left .signatures) (u .left .links) us) l (y .1)) in
     ap₂ (λ (o : Report) (os : List Report). o ∷ os) r (same-reports _ _ (s .left .signatures) (s .left .links) (u .left .signatures) (u .left .links) ss us (a .2) (x .1) y′)
+
+-- two runs of the same requests, from any tables that hold the same ledger and the same tree
+pub same-runs : (sigs links sigs′ links′ : List ℕ) (L : Ledger) (t : Tree) → Begins sigs links L t → Begins sigs′ links′ L t
+    → (ss us : List Step) → Alike ss us → Run sigs links ss → Run sigs′ links′ us → reports ss ≡ reports us
+same-runs sigs links sigs′ links′ L t b b′ ss us a r r′ = same-reports L t sigs links sigs′ links′ ss us a (demand sigs links L t b ss r) (demand sigs′ links′ L t b′ us r′)

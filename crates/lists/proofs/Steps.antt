@@ -10,7 +10,7 @@ use borrow.Author.Tests.{eq-eqb, ne-eqb}
 use Rattle.model.specs.Tree.{Tree, nothing}
 use Rattle.model.specs.Tables.{linksOf, treeOf}
 use Rattle.model.specs.Sound.{Sound}
-use Rattle.model.specs.Questions.{Call, clear, search, refusal, Reading, refused, carries}
+use Rattle.model.specs.Questions.{Call, clear, file, withdraw, rebuild, search, audit, refusal, Reading, refused, carries}
 use Rattle.model.specs.Ledger.{Ledger, emptyLedger, ledgerOf, asksLedger, entered, grown, ledgerAfter, treeAfter, Report, doneBy, reportBy}
 use Rattle.model.specs.Lists.{Memory}
 use Rattle.lists.specs.Stepped.{Stepped, Refused}
@@ -36,6 +36,10 @@ abbrev pub carried : Reading → ℕ
 carried (refused n) = 0
 carried (carries c) = 1
 
+-- a call that is carried out answers 0
+done-zero : (L : Ledger) (t : Tree) (c : Call) → doneBy L t c .answer ≡ 0
+done-zero L t c = elim c [ clear F ↦ refl | file b s ↦ refl | withdraw b ↦ refl | rebuild ↦ refl | search q ↦ refl | audit ↦ refl ]
+
 module _ (L : Ledger) (t : Tree) (M : Memory) (o : Report) (M′ : Memory) where
   -- a step that changes nothing
   pub stays : (r : Reading) → Begins (M .signatures) (M .links) L t → o ≡ reportBy L t (M .work) r → M′ ≡ M → ((q : ℕ) → r ≡ carries (search q) → o .answer ≡ 0 → ⊥)
@@ -52,9 +56,9 @@ module _ (L : Ledger) (t : Tree) (M : Memory) (o : Report) (M′ : Memory) where
       stays (carries c) b (rw (k, reportBy) (x .0)) (x .1) (λ q i z. n (sym (ap (λ (y : Report). y .answer) (x .0)) ∙ z)) (rw (k, ledgerAfter)) (rw (k, treeAfter))
 
   -- a call that is carried out
-  pub works : (c : Call) → refusal (asksLedger L) (M .work) c ≡ 0 → o ≡ doneBy L t c → o .answer ≡ 0 → ((q : ℕ) → c ≡ search q → Searched L t q (M .work) o (M′ .work))
+  pub works : (c : Call) → refusal (asksLedger L) (M .work) c ≡ 0 → o ≡ doneBy L t c → ((q : ℕ) → c ≡ search q → Searched L t q (M .work) o (M′ .work))
       → Begins (M′ .signatures) (M′ .links) (entered L c) (grown L t c) → Stepped L t (carries c) M o M′
-  works c z e a s b =
+  works c z e s b =
       let k = eq-eqb (refusal (asksLedger L) (M .work) c) 0 z in
       let b′ : Begins (M′ .signatures) (M′ .links) (ledgerAfter L (M .work) (carries c)) (treeAfter L t (M .work) (carries c)) = rw (k, ledgerAfter, treeAfter) b in
-      (record { report = rw (k, reportBy) e; untouched = λ n. absurd (n a); searched = λ q i _. s q (ap callOf i); kept = kept-of (M′ .signatures) (M′ .links) _ _ b′ }, b′)
+      (record { report = rw (k, reportBy) e; untouched = λ n. absurd (n (ap (λ (y : Report). y .answer) e ∙ done-zero L t c)); searched = λ q i _. s q (ap callOf i); kept = kept-of (M′ .signatures) (M′ .links) _ _ b′ }, b′)

@@ -75,6 +75,11 @@ module _ (test : ℕ → Bool) where
   keep-none [] h = refl
   keep-none (x ∷ l) h = rw (h x (List·Memᴰ·head refl), keep) (keep-none l (λ y m. h y (List·Memᴰ·tail m)))
 
+  pub keep-all : (l : List ℕ) → ((x : ℕ) → List·Memᴰ x l → test x ≡ true) → keep test l ≡ l
+  unfolding keep
+  keep-all [] h = refl
+  keep-all (x ∷ l) h = keep-yes x l (h x (List·Memᴰ·head refl)) ∙ ap (λ (xs : List ℕ). x ∷ xs) (keep-all l (λ y m. h y (List·Memᴰ·tail m)))
+
   pub keep-distinct : (l : List ℕ) → Distinct l → Distinct (keep test l)
   unfolding keep
   keep-distinct [] d = tt
@@ -121,3 +126,17 @@ upFrom-has (suc n) j i h k = go (ℕ-discrete i j) (upFrom-has n (suc j) i)
     go : Dec (i ≡ j) → (suc j ≤ i → i < suc j + n → List·Memᴰ i (upFrom n (suc j))) → List·Memᴰ i (j ∷ upFrom n (suc j))
     go (yes e) ih = List·Memᴰ·head e
     go (no d) ih = List·Memᴰ·tail (ih (omega arith) (omega arith))
+
+pub upFrom-range : (n j i : ℕ) → List·Memᴰ i (upFrom n j) → (j ≤ i) × (i < j + n)
+unfolding upFrom
+upFrom-range zero j i m = absurd (List·Memᴰ·not-nil m)
+upFrom-range (suc n) j i m = go (List·Memᴰ·cases-cons m) (upFrom-range n (suc j) i)
+  where
+    go : (i ≡ j) ⊎ List·Memᴰ i (upFrom n (suc j)) → (List·Memᴰ i (upFrom n (suc j)) → (suc j ≤ i) × (i < suc j + n)) → (j ≤ i) × (i < j + suc n)
+    go (inl e) ih = omega arith
+    go (inr k) ih = let g = ih k in omega arith
+
+pub upFrom-last : (n j : ℕ) → upFrom (suc n) j ≡ upFrom n j ++ ((j + n) ∷ [])
+unfolding upFrom
+upFrom-last zero j = ap (λ (x : ℕ). x ∷ []) (omega arith)
+upFrom-last (suc n) j = ap (λ (xs : List ℕ). j ∷ xs) (upFrom-last n (suc j) ∙ ap (λ (x : ℕ). upFrom n (suc j) ++ (x ∷ [])) (omega arith))
