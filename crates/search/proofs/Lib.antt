@@ -10,3 +10,4 @@ pub mod Promise
 pub mod Asking
 pub mod Returns
 pub mod Listings
+mod Examples

@@ -21,16 +21,37 @@ fits-requires : tie.Need-fits-requires
 fits-requires c κs = search needs
 
 returns-2 : tie.Need-returns-2
-returns-2 c = no-query _ _ _ _ (sym (c .before .before .before .before .tables-fit .ensures .0) ∙ not-false _ (c .before .before .before .if1 .left)) (sym (c .before .fits2 .ensures) ∙ not-true _ (c .if2 .taken))
+returns-2 c =
+    let at-fits2 = c .before in
+    let at-if1 = at-fits2 .before .before in
+    let at-tables-fit = at-if1 .before in
+    no-query _ _ _ _ (sym (at-tables-fit .tables-fit .ensures .0) ∙ not-false _ (at-if1 .if1 .left)) (sym (at-fits2 .fits2 .ensures) ∙ not-true _ (c .if2 .taken))
 
 returns-3 : tie.Need-returns-3
-returns-3 c = no-marks _ _ _ _ (sym (c .before .before .before .before .before .tables-fit .ensures .0) ∙ not-false _ (c .before .before .before .before .if1 .left)) (sym (c .before .before .fits2 .ensures) ∙ not-false _ (c .before .if2 .left)) (c .if3 .taken)
+returns-3 c =
+    let at-if2 = c .before in
+    let at-fits2 = at-if2 .before in
+    let at-if1 = at-fits2 .before .before in
+    let at-tables-fit = at-if1 .before in
+    no-marks _ _ _ _ (sym (at-tables-fit .tables-fit .ensures .0) ∙ not-false _ (at-if1 .if1 .left)) (sym (at-fits2 .fits2 .ensures) ∙ not-false _ (at-if2 .if2 .left)) (c .if3 .taken)
 
 returns-4 : tie.Need-returns-4
-returns-4 c = no-output _ _ _ _ (sym (c .before .before .before .before .before .before .tables-fit .ensures .0) ∙ not-false _ (c .before .before .before .before .before .if1 .left)) (sym (c .before .before .before .fits2 .ensures) ∙ not-false _ (c .before .before .if2 .left)) (c .before .if3 .left) (c .if4 .taken)
+returns-4 c =
+    let at-if3 = c .before in
+    let at-if2 = at-if3 .before in
+    let at-fits2 = at-if2 .before in
+    let at-if1 = at-fits2 .before .before in
+    let at-tables-fit = at-if1 .before in
+    no-output _ _ _ _ (sym (at-tables-fit .tables-fit .ensures .0) ∙ not-false _ (at-if1 .if1 .left)) (sym (at-fits2 .fits2 .ensures) ∙ not-false _ (at-if2 .if2 .left)) (at-if3 .if3 .left) (c .if4 .taken)
 
 returns-5 : tie.Need-returns-5
-returns-5 c = no-none _ _ _ _ (sym (c .before .before .before .before .before .before .tables-fit .ensures .0) ∙ not-false _ (c .before .before .before .before .before .if1 .left)) (sym (c .before .before .before .fits2 .ensures) ∙ not-false _ (c .before .before .if2 .left)) (c .before .if3 .left) (c .if4 .left)
+returns-5 c =
+    let at-if3 = c .before in
+    let at-if2 = at-if3 .before in
+    let at-fits2 = at-if2 .before in
+    let at-if1 = at-fits2 .before .before in
+    let at-tables-fit = at-if1 .before in
+    no-none _ _ _ _ (sym (at-tables-fit .tables-fit .ensures .0) ∙ not-false _ (at-if1 .if1 .left)) (sym (at-fits2 .fits2 .ensures) ∙ not-false _ (at-if2 .if2 .left)) (at-if3 .if3 .left) (c .if4 .left)
 
 pub ask-spec : {M : Type 1} → statement M
 ask-spec =

@@ -11,7 +11,9 @@ clear-marks-requires : tie.Need-clear-marks-requires
 clear-marks-requires c κs = search needs
 
 shared-slice-read-root : tie.Need-shared-slice-read-root
-shared-slice-read-root c = omega (arith, c .before .before .before .before .before .before .before .before .before .pre .0 .long, c .before .before .before .before .before .before .before .before .before .pre .1 .0)
+shared-slice-read-root c =
+    let entry = c .before .before .before .before .before .before .before .before .before in
+    omega (arith, entry .pre .0 .long, entry .pre .1 .0)
 
 no-list-requires : tie.Need-no-list-requires
 no-list-requires c κs = search needs
@@ -23,7 +25,9 @@ returns : tie.Need-returns
 returns c = find-empty _ _ _ _ _ _ (c .before .before .before .before .before .clear-marks .ensures) _ (c .no-list .ensures) (c .before .if1 .taken)
 
 shared-slice-read-walk : tie.Need-shared-slice-read-walk
-shared-slice-read-walk c = omega (arith, c .before .before .before .before .before .before .before .before .before .before .before .before .pre .0 .long, c .before .before .before .before .before .before .before .before .before .before .before .before .pre .1 .0)
+shared-slice-read-walk c =
+    let entry = c .before .before .before .before .before .before .before .before .before .before .before .before in
+    omega (arith, entry .pre .0 .long, entry .pre .1 .0)
 
 lend-requires : tie.Need-lend-requires
 lend-requires c κs = search needs
@@ -41,40 +45,73 @@ same-length-2 : tie.Need-same-length-2
 same-length-2 c = search needs
 
 returns-2 : tie.Need-returns-2
-returns-2 c = find-unfit _ _ _ _ _ _ (c .before .before .before .before .before .before .before .before .before .before .before .before .before .clear-marks .ensures) _ _ (c .before .before .before .before .before .before .lend .ensures) _ _ (c .before .before .before .before .before .walk .ensures) (c .no-list2 .ensures) (c .before .before .before .before .before .before .before .before .before .if1 .left) (sym (c .before .before .nodes-in .ensures) ∙ c .before .if2 .taken)
+returns-2 c =
+    let at-if2 = c .before in
+    let at-nodes-in = at-if2 .before in
+    let at-walk = at-nodes-in .before .before .before in
+    let at-lend = at-walk .before in
+    let at-if1 = at-lend .before .before .before in
+    let at-clear-marks = at-if1 .before .before .before .before in
+    find-unfit _ _ _ _ _ _ (at-clear-marks .clear-marks .ensures) _ _ (at-lend .lend .ensures) _ _ (at-walk .walk .ensures) (c .no-list2 .ensures) (at-if1 .if1 .left) (sym (at-nodes-in .nodes-in .ensures) ∙ at-if2 .if2 .taken)
 
 blocks-in-requires : tie.Need-blocks-in-requires
 blocks-in-requires c κs = search needs
 
 used-requires : tie.Need-used-requires
 used-requires c κs =
-    let f = walk-found (c .before .before .before .before .before .before .before .before .before .before .before .before .before .before .before .before .before .before .before .args .signatures .now) (c .before .before .before .before .before .before .before .before .before .before .before .before .before .before .before .before .before .before .before .args .links .now) (c .before .before .before .before .before .before .before .before .before .before .before .before .before .before .before .before .before .before .before .args .query) (c .before .before .before .before .before .before .before .before .before .before .before .before .before .before .before .before .before .before .before .args .marks .now) _ (c .before .before .before .before .before .before .before .before .before .before .before .before .before .clear-marks .ensures) _ (c .before .before .before .before .before .before .lend .ensures) _ _ (c .before .before .before .before .before .walk .ensures) (c .before .before .before .before .before .before .before .before .before .before .before .before .before .before .before .before .before .before .before .pre .0 .room) (λ z. c .before .if2 .left (c .before .before .nodes-in .ensures ∙ z)) in
-    omega (arith, f .0, c .blocks-in .ensures, c .before .before .before .before .before .before .before .before .before .before .before .before .before .before .before .before .before .before .before .pre .0 .few)
+    let at-if2 = c .before in
+    let at-nodes-in = at-if2 .before in
+    let at-walk = at-nodes-in .before .before .before in
+    let at-lend = at-walk .before in
+    let at-clear-marks = at-lend .before .before .before .before .before .before .before in
+    let entry = at-clear-marks .before .before .before .before .before .before in
+    let a = entry .args in
+    let f = walk-found (a .signatures .now) (a .links .now) (a .query) (a .marks .now) _ (at-clear-marks .clear-marks .ensures) _ (at-lend .lend .ensures) _ _ (at-walk .walk .ensures) (entry .pre .0 .room) (λ z. at-if2 .if2 .left (at-nodes-in .nodes-in .ensures ∙ z)) in
+    omega (arith, f .0, c .blocks-in .ensures, entry .pre .0 .few)
 
 cast-list-marked : tie.Need-cast-list-marked
 cast-list-marked c = search needs
 
 list-marked-requires : tie.Need-list-marked-requires
 list-marked-requires c κs =
-    let f = walk-found (c .before .before .before .before .before .before .before .before .before .before .before .before .before .before .before .before .before .before .before .before .before .before .args .signatures .now) (c .before .before .before .before .before .before .before .before .before .before .before .before .before .before .before .before .before .before .before .before .before .before .args .links .now) (c .before .before .before .before .before .before .before .before .before .before .before .before .before .before .before .before .before .before .before .before .before .before .args .query) (c .before .before .before .before .before .before .before .before .before .before .before .before .before .before .before .before .before .before .before .before .before .before .args .marks .now) _ (c .before .before .before .before .before .before .before .before .before .before .before .before .before .before .before .before .clear-marks .ensures) _ (c .before .before .before .before .before .before .before .before .before .lend .ensures) _ _ (c .before .before .before .before .before .before .before .before .walk .ensures) (c .before .before .before .before .before .before .before .before .before .before .before .before .before .before .before .before .before .before .before .before .before .before .pre .0 .room) (λ z. c .before .before .before .before .if2 .left (c .before .before .before .before .before .nodes-in .ensures ∙ z)) in
-    let e = used-read _ _ _ _ (c .before .before .used .ensures) (c .before .before .before .blocks-in .ensures) in
-    (search needs, search needs, omega (arith, e, c .before .before .before .before .before .before .before .before .before .before .before .before .before .before .before .before .before .before .before .before .before .before .pre .1 .1), e ∙ f .1)
+    let at-used = c .before .before in
+    let at-blocks-in = at-used .before in
+    let at-if2 = at-blocks-in .before in
+    let at-nodes-in = at-if2 .before in
+    let at-walk = at-nodes-in .before .before .before in
+    let at-lend = at-walk .before in
+    let at-clear-marks = at-lend .before .before .before .before .before .before .before in
+    let entry = at-clear-marks .before .before .before .before .before .before in
+    let a = entry .args in
+    let f = walk-found (a .signatures .now) (a .links .now) (a .query) (a .marks .now) _ (at-clear-marks .clear-marks .ensures) _ (at-lend .lend .ensures) _ _ (at-walk .walk .ensures) (entry .pre .0 .room) (λ z. at-if2 .if2 .left (at-nodes-in .nodes-in .ensures ∙ z)) in
+    let e = used-read _ _ _ _ (at-used .used .ensures) (at-blocks-in .blocks-in .ensures) in
+    (search needs, search needs, omega (arith, e, entry .pre .1 .1), e ∙ f .1)
 
 compares-in-requires : tie.Need-compares-in-requires
 compares-in-requires c κs = search needs
 
 used-requires-2 : tie.Need-used-requires-2
 used-requires-2 c κs =
-    let f = walk-few (c .before .before .before .before .before .before .before .before .before .before .before .before .before .before .before .before .before .before .before .before .before .before .before .before .before .before .args .signatures .now) (c .before .before .before .before .before .before .before .before .before .before .before .before .before .before .before .before .before .before .before .before .before .before .before .before .before .before .args .links .now) (c .before .before .before .before .before .before .before .before .before .before .before .before .before .before .before .before .before .before .before .before .before .before .before .before .before .before .args .query) (c .before .before .before .before .before .before .before .before .before .before .before .before .before .before .before .before .before .before .before .before .before .before .before .before .before .before .args .marks .now) _ (c .before .before .before .before .before .before .before .before .before .before .before .before .before .before .before .before .before .before .before .before .clear-marks .ensures) _ (c .before .before .before .before .before .before .before .before .before .before .before .before .before .lend .ensures) _ _ (c .before .before .before .before .before .before .before .before .before .before .before .before .walk .ensures) (c .before .before .before .before .before .before .before .before .before .before .before .before .before .before .before .before .before .before .before .before .before .before .before .before .before .before .pre .0 .room) in
-    omega (arith, f .1, c .compares-in .ensures, c .before .before .before .before .before .before .before .before .before .before .before .before .before .before .before .before .before .before .before .before .before .before .before .before .before .before .pre .0 .few)
+    let at-walk = c .before .before .before .before .before .before .before .before .before .before .before .before in
+    let at-lend = at-walk .before in
+    let at-clear-marks = at-lend .before .before .before .before .before .before .before in
+    let entry = at-clear-marks .before .before .before .before .before .before in
+    let a = entry .args in
+    let f = walk-few (a .signatures .now) (a .links .now) (a .query) (a .marks .now) _ (at-clear-marks .clear-marks .ensures) _ (at-lend .lend .ensures) _ _ (at-walk .walk .ensures) (entry .pre .0 .room) in
+    omega (arith, f .1, c .compares-in .ensures, entry .pre .0 .few)
 
 nodes-in-requires-2 : tie.Need-nodes-in-requires-2
 nodes-in-requires-2 c κs = search needs
 
 used-requires-3 : tie.Need-used-requires-3
 used-requires-3 c κs =
-    let f = walk-few (c .before .before .before .before .before .before .before .before .before .before .before .before .before .before .before .before .before .before .before .before .before .before .before .before .before .before .before .before .args .signatures .now) (c .before .before .before .before .before .before .before .before .before .before .before .before .before .before .before .before .before .before .before .before .before .before .before .before .before .before .before .before .args .links .now) (c .before .before .before .before .before .before .before .before .before .before .before .before .before .before .before .before .before .before .before .before .before .before .before .before .before .before .before .before .args .query) (c .before .before .before .before .before .before .before .before .before .before .before .before .before .before .before .before .before .before .before .before .before .before .before .before .before .before .before .before .args .marks .now) _ (c .before .before .before .before .before .before .before .before .before .before .before .before .before .before .before .before .before .before .before .before .before .before .clear-marks .ensures) _ (c .before .before .before .before .before .before .before .before .before .before .before .before .before .before .before .lend .ensures) _ _ (c .before .before .before .before .before .before .before .before .before .before .before .before .before .before .walk .ensures) (c .before .before .before .before .before .before .before .before .before .before .before .before .before .before .before .before .before .before .before .before .before .before .before .before .before .before .before .before .pre .0 .room) in
-    omega (arith, f .0, c .nodes-in2 .ensures, c .before .before .before .before .before .before .before .before .before .before .before .before .before .before .before .before .before .before .before .before .before .before .before .before .before .before .before .before .pre .0 .few)
+    let at-walk = c .before .before .before .before .before .before .before .before .before .before .before .before .before .before in
+    let at-lend = at-walk .before in
+    let at-clear-marks = at-lend .before .before .before .before .before .before .before in
+    let entry = at-clear-marks .before .before .before .before .before .before in
+    let a = entry .args in
+    let f = walk-few (a .signatures .now) (a .links .now) (a .query) (a .marks .now) _ (at-clear-marks .clear-marks .ensures) _ (at-lend .lend .ensures) _ _ (at-walk .walk .ensures) (entry .pre .0 .room) in
+    omega (arith, f .0, c .nodes-in2 .ensures, entry .pre .0 .few)
 
 same-length-3 : tie.Need-same-length-3
 same-length-3 c = search needs
@@ -84,8 +121,20 @@ same-length-4 c = search needs
 
 returns-3 : tie.Need-returns-3
 returns-3 c =
-    let r = report-same _ _ _ _ _ _ (used-read _ _ _ _ (c .before .before .before .before .before .before .before .before .before .used .ensures) (c .before .before .before .before .before .before .before .before .before .before .blocks-in .ensures)) (used-read _ _ _ _ (c .before .before .used2 .ensures) (c .before .before .before .compares-in .ensures)) (used-read _ _ _ _ (c .used3 .ensures) (c .before .nodes-in2 .ensures)) in
-    find-list _ _ _ _ _ _ (c .before .before .before .before .before .before .before .before .before .before .before .before .before .before .before .before .before .before .before .before .before .before .before .clear-marks .ensures) _ _ (c .before .before .before .before .before .before .before .before .before .before .before .before .before .before .before .before .lend .ensures) _ _ (c .before .before .before .before .before .before .before .before .before .before .before .before .before .before .before .walk .ensures) (c .before .before .before .before .before .before .before .before .before .before .before .before .before .before .before .before .before .before .before .if1 .left) (λ z. c .before .before .before .before .before .before .before .before .before .before .before .if2 .left (c .before .before .before .before .before .before .before .before .before .before .before .before .nodes-in .ensures ∙ z)) r _ (c .before .before .before .before .before .before .list-marked .ensures)
+    let at-nodes-in2 = c .before in
+    let at-used2 = at-nodes-in2 .before in
+    let at-compares-in = at-used2 .before in
+    let at-list-marked = at-compares-in .before .before .before in
+    let at-used = at-list-marked .before .before .before in
+    let at-blocks-in = at-used .before in
+    let at-if2 = at-blocks-in .before in
+    let at-nodes-in = at-if2 .before in
+    let at-walk = at-nodes-in .before .before .before in
+    let at-lend = at-walk .before in
+    let at-if1 = at-lend .before .before .before in
+    let at-clear-marks = at-if1 .before .before .before .before in
+    let r = report-same _ _ _ _ _ _ (used-read _ _ _ _ (at-used .used .ensures) (at-blocks-in .blocks-in .ensures)) (used-read _ _ _ _ (at-used2 .used2 .ensures) (at-compares-in .compares-in .ensures)) (used-read _ _ _ _ (c .used3 .ensures) (at-nodes-in2 .nodes-in2 .ensures)) in
+    find-list _ _ _ _ _ _ (at-clear-marks .clear-marks .ensures) _ _ (at-lend .lend .ensures) _ _ (at-walk .walk .ensures) (at-if1 .if1 .left) (λ z. at-if2 .if2 .left (at-nodes-in .nodes-in .ensures ∙ z)) r _ (at-list-marked .list-marked .ensures)
 
 pub find-spec : {M : Type 1} → statement M
 find-spec =

@@ -12,7 +12,12 @@ ask-requires : tie.Need-ask-requires
 ask-requires c κs = search needs
 
 find-requires : tie.Need-find-requires
-find-requires c κs = passed-sized (c .before .before .before .before .before .before .before .before .args .signatures .now) (c .before .before .before .before .before .before .before .before .args .links .now) (c .before .before .before .before .before .before .before .before .args .marks .now) (c .before .before .before .before .before .before .before .before .args .output .now) (c .before .before .before .before .before .before .before .before .args .query) (sym (c .before .before .before .ask .ensures) ∙ c .before .before .if1 .taken)
+find-requires c κs =
+    let at-if1 = c .before .before in
+    let at-ask = at-if1 .before in
+    let entry = at-ask .before .before .before .before .before in
+    let a = entry .args in
+    passed-sized (a .signatures .now) (a .links .now) (a .marks .now) (a .output .now) (a .query) (sym (at-ask .ask .ensures) ∙ at-if1 .if1 .taken)
 
 same-length : tie.Need-same-length
 same-length c = search needs
@@ -22,8 +27,13 @@ same-length-2 c = search needs
 
 returns : tie.Need-returns
 returns c =
-    let z = sym (c .before .before .before .before .before .before .before .before .ask .ensures) ∙ c .before .before .before .before .before .before .before .if1 .taken in
-    keeps _ _ _ _ _ z (passed-sized (c .before .before .before .before .before .before .before .before .before .before .before .before .before .args .signatures .now) (c .before .before .before .before .before .before .before .before .before .before .before .before .before .args .links .now) (c .before .before .before .before .before .before .before .before .before .before .before .before .before .args .marks .now) (c .before .before .before .before .before .before .before .before .before .before .before .before .before .args .output .now) (c .before .before .before .before .before .before .before .before .before .before .before .before .before .args .query) z .0 .room) _ (c .before .before .before .before .find .ensures)
+    let at-find = c .before .before .before .before in
+    let at-if1 = at-find .before .before .before in
+    let at-ask = at-if1 .before in
+    let entry = at-ask .before .before .before .before .before in
+    let a = entry .args in
+    let z = sym (at-ask .ask .ensures) ∙ at-if1 .if1 .taken in
+    keeps _ _ _ _ _ z (passed-sized (a .signatures .now) (a .links .now) (a .marks .now) (a .output .now) (a .query) z .0 .room) _ (at-find .find .ensures)
 
 no-list-requires : tie.Need-no-list-requires
 no-list-requires c κs = search needs

@@ -34,7 +34,10 @@ mul-output : tie.Need-mul-output Inv-loop μ-loop
 mul-output c = search needs
 
 slice-write-output : tie.Need-slice-write-output Inv-loop μ-loop
-slice-write-output c = omega (arith, c .if1 .left, c .before .before .loop .inv .2 .long, c .before .before .before .before .before .pre)
+slice-write-output c =
+    let at-loop = c .before .before in
+    let entry = at-loop .before .before .before in
+    omega (arith, c .if1 .left, at-loop .loop .inv .2 .long, entry .pre)
 
 is-marked-requires : tie.Need-is-marked-requires Inv-loop μ-loop
 is-marked-requires c κs = search needs
@@ -46,13 +49,23 @@ loop-less : tie.Need-loop-less Inv-loop μ-loop
 loop-less c = search needs
 
 loop-again : tie.Need-loop-again Inv-loop μ-loop
-loop-again c = (omega arith, omega arith, part-yes _ _ _ _ _ _ _ _ (c .before .before .before .before .loop .inv .2) (omega (arith, c .before .before .if1 .left)) (omega (arith, c .before .before .if1 .left, c .before .before .before .before .loop .inv .2 .long, c .before .before .before .before .before .before .before .pre)) (sym (c .before .is-marked .ensures) ∙ c .if2 .taken))
+loop-again c =
+    let at-is-marked = c .before in
+    let at-if1 = at-is-marked .before in
+    let at-loop = at-if1 .before .before in
+    let entry = at-loop .before .before .before in
+    (omega arith, omega arith, part-yes _ _ _ _ _ _ _ _ (at-loop .loop .inv .2) (omega (arith, at-if1 .if1 .left)) (omega (arith, at-if1 .if1 .left, at-loop .loop .inv .2 .long, entry .pre)) (sym (at-is-marked .is-marked .ensures) ∙ c .if2 .taken))
 
 loop-less-2 : tie.Need-loop-less-2 Inv-loop μ-loop
 loop-less-2 c = search needs
 
 loop-again-2 : tie.Need-loop-again-2 Inv-loop μ-loop
-loop-again-2 c = (omega arith, omega arith, part-no _ _ _ _ _ _ _ _ (c .before .before .before .before .loop .inv .2) (omega (arith, c .before .before .if1 .left)) (omega (arith, c .before .before .if1 .left, c .before .before .before .before .loop .inv .2 .long, c .before .before .before .before .before .before .before .pre)) (sym (c .before .is-marked .ensures) ∙ c .if2 .left))
+loop-again-2 c =
+    let at-is-marked = c .before in
+    let at-if1 = at-is-marked .before in
+    let at-loop = at-if1 .before .before in
+    let entry = at-loop .before .before .before in
+    (omega arith, omega arith, part-no _ _ _ _ _ _ _ _ (at-loop .loop .inv .2) (omega (arith, at-if1 .if1 .left)) (omega (arith, at-if1 .if1 .left, at-loop .loop .inv .2 .long, entry .pre)) (sym (at-is-marked .is-marked .ensures) ∙ c .if2 .left))
 
 same-length-2 : tie.Need-same-length-2 Inv-loop μ-loop
 same-length-2 c = c .before .loop .inv .2 .long

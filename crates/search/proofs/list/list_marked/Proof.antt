@@ -22,7 +22,10 @@ add-loop : tie.Need-add-loop Inv-loop μ-loop
 add-loop c = search needs
 
 list-run-requires : tie.Need-list-run-requires Inv-loop μ-loop
-list-run-requires c κs = omega (arith, c .before .before .loop .inv .1 .long, c .before .before .before .before .before .pre .0, c .before .before .before .before .before .pre .1, c .before .before .before .before .before .pre .2)
+list-run-requires c κs =
+    let at-loop = c .before .before in
+    let entry = at-loop .before .before .before in
+    omega (arith, at-loop .loop .inv .1 .long, entry .pre .0, entry .pre .1, entry .pre .2)
 
 add-from : tie.Need-add-from Inv-loop μ-loop
 add-from c = search needs
@@ -31,16 +34,29 @@ loop-less : tie.Need-loop-less Inv-loop μ-loop
 loop-less c = search needs
 
 loop-again : tie.Need-loop-again Inv-loop μ-loop
-loop-again c = (omega arith, part-then _ _ _ _ _ _ _ _ _ _ _ (omega arith) (c .before .before .before .before .before .loop .inv .1) (c .before .before .list-run .ensures))
+loop-again c =
+    let at-list-run = c .before .before in
+    let at-loop = at-list-run .before .before .before in
+    (omega arith, part-then _ _ _ _ _ _ _ _ _ _ _ (omega arith) (at-loop .loop .inv .1) (at-list-run .list-run .ensures))
 
 list-blocks-requires : tie.Need-list-blocks-requires Inv-loop μ-loop
-list-blocks-requires c κs = omega (arith, c .before .before .loop .inv .1 .long, c .before .before .before .before .before .pre .0, c .before .before .before .before .before .pre .1, c .before .before .before .before .before .pre .2)
+list-blocks-requires c κs =
+    let at-loop = c .before .before in
+    let entry = at-loop .before .before .before in
+    omega (arith, at-loop .loop .inv .1 .long, entry .pre .0, entry .pre .1, entry .pre .2)
 
 same-length : tie.Need-same-length Inv-loop μ-loop
-same-length c = c .before .before .list-blocks .ensures .long ∙ c .before .before .before .before .before .loop .inv .1 .long
+same-length c =
+    let at-list-blocks = c .before .before in
+    let at-loop = at-list-blocks .before .before .before in
+    at-list-blocks .list-blocks .ensures .long ∙ at-loop .loop .inv .1 .long
 
 returns : tie.Need-returns Inv-loop μ-loop
-returns c = list-whole _ _ _ _ _ _ (c .before .before .before .before .before .before .before .before .pre .3) (part-then _ _ _ _ _ _ _ _ _ _ _ (c .before .before .before .before .before .loop .inv .0) (c .before .before .before .before .before .loop .inv .1) (c .before .before .list-blocks .ensures))
+returns c =
+    let at-list-blocks = c .before .before in
+    let at-loop = at-list-blocks .before .before .before in
+    let entry = at-loop .before .before .before in
+    list-whole _ _ _ _ _ _ (entry .pre .3) (part-then _ _ _ _ _ _ _ _ _ _ _ (at-loop .loop .inv .0) (at-loop .loop .inv .1) (at-list-blocks .list-blocks .ensures))
 
 pub list-marked-spec : {M : Type 1} → statement M
 list-marked-spec =

@@ -47,7 +47,10 @@ loop-again : tie.Need-loop-again Inv-loop μ-loop
 loop-again c = let l = c .before .before .loop in (omega arith, l .inv .1, none-more _ _ (l .inv .1) _ _ (l .inv .2))
 
 returns : tie.Need-returns Inv-loop μ-loop
-returns c = λ e. run-none (c .before .before .before .args .marks .now) (c .before .before .before .args .from) 64 (λ j h. c .before .loop .inv .2 (eqb-true _ _ e) j (omega (arith, c .loop-test .left)))
+returns c =
+    let at-loop = c .before in
+    let entry = at-loop .before .before in
+    λ e. run-none (entry .args .marks .now) (entry .args .from) 64 (λ j h. at-loop .loop .inv .2 (eqb-true _ _ e) j (omega (arith, c .loop-test .left)))
 
 pub none-marked-spec : {M : Type 1} → statement M
 none-marked-spec =

@@ -84,13 +84,25 @@ edge-requires : At walk-lts.Need-edge-requires
 edge-requires t c κs = search needs
 
 returns-4 : At walk-lts.Need-returns-4
-returns-4 t c = node-unfit _ _ _ _ _ _ _ (c .before .before .before .before .before .before .if1 .left) (over (c .before .before .before .before .nodes-in .ensures) (c .before .before .before .if3 .left)) _ (c .before .edge .ensures) (c .if4 .taken)
+returns-4 t c =
+    let at-edge = c .before in
+    let at-if3 = at-edge .before .before in
+    let at-nodes-in = at-if3 .before in
+    let at-if1 = at-nodes-in .before .before in
+    node-unfit _ _ _ _ _ _ _ (at-if1 .if1 .left) (over (at-nodes-in .nodes-in .ensures) (at-if3 .if3 .left)) _ (at-edge .edge .ensures) (c .if4 .taken)
 
 take-node-requires : At walk-lts.Need-take-node-requires
-take-node-requires t c κs = over (c .before .before .before .before .nodes-in .ensures) (c .before .before .before .if3 .left)
+take-node-requires t c κs =
+    let at-if3 = c .before .before .before in
+    let at-nodes-in = at-if3 .before in
+    over (at-nodes-in .nodes-in .ensures) (at-if3 .if3 .left)
 
 side-of-requires : At walk-lts.Need-side-of-requires
-side-of-requires t c κs = let f = c .before .before .edge .ensures .node (c .before .if4 .left) in (c .before .before .before .before .before .before .before .before .before .before .before .pre .1 .long, f .0, omega arith)
+side-of-requires t c κs =
+    let at-if4 = c .before in
+    let at-edge = at-if4 .before in
+    let entry = at-edge .before .before .before .before .before .before .before .before .before in
+    let f = at-edge .edge .ensures .node (at-if4 .if4 .left) in (entry .pre .1 .long, f .0, omega arith)
 
 sub-walk : At walk-lts.Need-sub-walk
 sub-walk t c = search needs
@@ -102,10 +114,26 @@ same-length-2 : At walk-lts.Need-same-length-2
 same-length-2 t c = search needs
 
 returns-5 : At walk-lts.Need-returns-5
-returns-5 t c = node-right _ _ _ _ _ _ _ (c .before .before .before .before .before .before .before .before .before .before .before .before .before .if1 .left) (over (c .before .before .before .before .before .before .before .before .before .before .before .nodes-in .ensures) (c .before .before .before .before .before .before .before .before .before .before .if3 .left)) _ (c .before .before .before .before .before .before .before .before .edge .ensures) (c .before .before .before .before .before .before .before .before .before .before .before .before .if2 .left) (c .before .before .before .before .before .before .before .if4 .left) _ (c .before .before .before .before .before .before .take-node .ensures) _ (c .before .before .before .before .before .side-of .ensures) (c .before .before .before .before .if5 .taken) _ (c .before .before .walk .ensures)
+returns-5 t c =
+    let at-walk = c .before .before in
+    let at-if5 = at-walk .before .before in
+    let at-side-of = at-if5 .before in
+    let at-take-node = at-side-of .before in
+    let at-if4 = at-take-node .before in
+    let at-edge = at-if4 .before in
+    let at-if3 = at-edge .before .before in
+    let at-nodes-in = at-if3 .before in
+    let at-if2 = at-nodes-in .before in
+    let at-if1 = at-if2 .before in
+    node-right _ _ _ _ _ _ _ (at-if1 .if1 .left) (over (at-nodes-in .nodes-in .ensures) (at-if3 .if3 .left)) _ (at-edge .edge .ensures)
+    (at-if2 .if2 .left) (at-if4 .if4 .left) _ (at-take-node .take-node .ensures) _ (at-side-of .side-of .ensures) (at-if5 .if5 .taken) _ (at-walk .walk .ensures)
 
 side-of-requires-2 : At walk-lts.Need-side-of-requires-2
-side-of-requires-2 t c κs = let f = c .before .before .before .before .edge .ensures .node (c .before .before .before .if4 .left) in (c .before .before .before .before .before .before .before .before .before .before .before .before .before .pre .1 .long, f .0, omega arith)
+side-of-requires-2 t c κs =
+    let at-if4 = c .before .before .before in
+    let at-edge = at-if4 .before in
+    let entry = at-edge .before .before .before .before .before .before .before .before .before in
+    let f = at-edge .edge .ensures .node (at-if4 .if4 .left) in (entry .pre .1 .long, f .0, omega arith)
 
 sub-walk-2 : At walk-lts.Need-sub-walk-2
 sub-walk-2 t c = search needs
@@ -123,7 +151,21 @@ same-length-3 : At walk-lts.Need-same-length-3
 same-length-3 t c = search needs
 
 returns-6 : At walk-lts.Need-returns-6
-returns-6 t c = node-both _ _ _ _ _ _ _ (c .before .before .before .before .before .before .before .before .before .before .before .before .before .before .before .before .before .before .if1 .left) (over (c .before .before .before .before .before .before .before .before .before .before .before .before .before .before .before .before .nodes-in .ensures) (c .before .before .before .before .before .before .before .before .before .before .before .before .before .before .before .if3 .left)) _ (c .before .before .before .before .before .before .before .before .before .before .before .before .before .edge .ensures) (c .before .before .before .before .before .before .before .before .before .before .before .before .before .before .before .before .before .if2 .left) (c .before .before .before .before .before .before .before .before .before .before .before .before .if4 .left) _ (c .before .before .before .before .before .before .before .before .before .before .before .take-node .ensures) _ (c .before .before .before .before .before .before .before .before .before .before .side-of .ensures) (c .before .before .before .before .before .before .before .before .before .if5 .left) _ (c .before .before .before .before .before .before .before .before .side-of2 .ensures) _ _ (c .before .before .before .before .before .before .walk2 .ensures) _ (c .before .before .walk3 .ensures)
+returns-6 t c =
+    let at-walk3 = c .before .before in
+    let at-walk2 = at-walk3 .before .before .before .before in
+    let at-side-of2 = at-walk2 .before .before in
+    let at-if5 = at-side-of2 .before in
+    let at-side-of = at-if5 .before in
+    let at-take-node = at-side-of .before in
+    let at-if4 = at-take-node .before in
+    let at-edge = at-if4 .before in
+    let at-if3 = at-edge .before .before in
+    let at-nodes-in = at-if3 .before in
+    let at-if2 = at-nodes-in .before in
+    let at-if1 = at-if2 .before in
+    node-both _ _ _ _ _ _ _ (at-if1 .if1 .left) (over (at-nodes-in .nodes-in .ensures) (at-if3 .if3 .left)) _ (at-edge .edge .ensures)
+    (at-if2 .if2 .left) (at-if4 .if4 .left) _ (at-take-node .take-node .ensures) _ (at-side-of .side-of .ensures) (at-if5 .if5 .left) _ (at-side-of2 .side-of2 .ensures) _ _ (at-walk2 .walk2 .ensures) _ (at-walk3 .walk3 .ensures)
 
 pub +walk-spec : {M : Type 1} → statement M
 +walk-spec = close μ-walk λ t. walk-lts.spec (calls t) (walk-at t) walk.Post

@@ -22,13 +22,24 @@ take-compare-requires : tie.Need-take-compare-requires
 take-compare-requires c κs = omega (arith, c .if2 .left, c .before .compares-in .ensures)
 
 signature-of-requires : tie.Need-signature-of-requires
-signature-of-requires c κs = omega (arith, c .before .before .before .if1 .left, c .before .before .before .before .before .before .before .pre .1)
+signature-of-requires c κs =
+    let at-if1 = c .before .before .before in
+    let entry = at-if1 .before .before .before .before in
+    omega (arith, at-if1 .if1 .left, entry .pre .1)
 
 covers-requires : tie.Need-covers-requires
 covers-requires c κs = search needs
 
 returns-3 : tie.Need-returns-3
-returns-3 c = leaf-passes _ _ _ _ _ _ (c .before .before .before .before .before .before .if1 .left) (omega (arith, c .before .before .before .before .if2 .left, c .before .before .before .before .before .compares-in .ensures)) _ (c .before .before .before .take-compare .ensures) (sym (covers-read _ _ _ _ _ (c .before .before .before .before .before .before .before .before .before .before .pre .0 .low) (c .before .covers .ensures .0) (c .before .before .signature-of .ensures)) ∙ not-true _ (c .if3 .taken))
+returns-3 c =
+    let at-covers = c .before in
+    let at-signature-of = at-covers .before in
+    let at-take-compare = at-signature-of .before in
+    let at-if2 = at-take-compare .before in
+    let at-compares-in = at-if2 .before in
+    let at-if1 = at-compares-in .before in
+    let entry = at-if1 .before .before .before .before in
+    leaf-passes _ _ _ _ _ _ (at-if1 .if1 .left) (omega (arith, at-if2 .if2 .left, at-compares-in .compares-in .ensures)) _ (at-take-compare .take-compare .ensures) (sym (covers-read _ _ _ _ _ (entry .pre .0 .low) (at-covers .covers .ensures .0) (at-signature-of .signature-of .ensures)) ∙ not-true _ (c .if3 .taken))
 
 mark-chain-requires : tie.Need-mark-chain-requires
 mark-chain-requires c κs = search needs
@@ -37,7 +48,17 @@ same-length : tie.Need-same-length
 same-length c = search needs
 
 returns-4 : tie.Need-returns-4
-returns-4 c = leaf-marks _ _ _ _ _ _ (c .before .before .before .before .before .before .before .before .before .before .if1 .left) (omega (arith, c .before .before .before .before .before .before .before .before .if2 .left, c .before .before .before .before .before .before .before .before .before .compares-in .ensures)) _ (c .before .before .before .before .before .before .before .take-compare .ensures) (sym (covers-read _ _ _ _ _ (c .before .before .before .before .before .before .before .before .before .before .before .before .before .before .pre .0 .low) (c .before .before .before .before .before .covers .ensures .0) (c .before .before .before .before .before .before .signature-of .ensures)) ∙ not-false _ (c .before .before .before .before .if3 .left)) _ (c .before .before .mark-chain .ensures)
+returns-4 c =
+    let at-mark-chain = c .before .before in
+    let at-if3 = at-mark-chain .before .before in
+    let at-covers = at-if3 .before in
+    let at-signature-of = at-covers .before in
+    let at-take-compare = at-signature-of .before in
+    let at-if2 = at-take-compare .before in
+    let at-compares-in = at-if2 .before in
+    let at-if1 = at-compares-in .before in
+    let entry = at-if1 .before .before .before .before in
+    leaf-marks _ _ _ _ _ _ (at-if1 .if1 .left) (omega (arith, at-if2 .if2 .left, at-compares-in .compares-in .ensures)) _ (at-take-compare .take-compare .ensures) (sym (covers-read _ _ _ _ _ (entry .pre .0 .low) (at-covers .covers .ensures .0) (at-signature-of .signature-of .ensures)) ∙ not-false _ (at-if3 .if3 .left)) _ (at-mark-chain .mark-chain .ensures)
 
 pub leaf-spec : {M : Type 1} → statement M
 leaf-spec =

@@ -38,25 +38,58 @@ same-length-2 : tie.Need-same-length-2 Inv-loop μ-loop
 same-length-2 c = search needs
 
 returns-2 : tie.Need-returns-2 Inv-loop μ-loop
-returns-2 c = sym (c .before .before .before .before .before .before .loop .inv .1 ∙ chain-stop _ _ _ _ _ _ _ _ (c .before .before .before .before .before .loop-test .taken) (sym (c .before .may-mark .ensures) ∙ not-true _ (c .if2 .taken)))
+returns-2 c =
+    let at-may-mark = c .before in
+    let at-loop-test = at-may-mark .before .before .before .before in
+    let at-loop = at-loop-test .before in
+    sym (at-loop .loop .inv .1 ∙ chain-stop _ _ _ _ _ _ _ _ (at-loop-test .loop-test .taken) (sym (at-may-mark .may-mark .ensures) ∙ not-true _ (c .if2 .taken)))
 
 next-of-requires : tie.Need-next-of-requires Inv-loop μ-loop
-next-of-requires c κs = let p = may-matches _ _ _ _ _ (sym (c .before .may-mark .ensures) ∙ not-false _ (c .if2 .left)) .1 in omega (arith, p .to, c .before .before .before .before .before .before .before .before .before .before .pre .long)
+next-of-requires c κs =
+    let at-may-mark = c .before in
+    let entry = at-may-mark .before .before .before .before .before .before .before .before .before in
+    let p = may-matches _ _ _ _ _ (sym (at-may-mark .may-mark .ensures) ∙ not-false _ (c .if2 .left)) .1 in omega (arith, p .to, entry .pre .long)
 
 wide-requires : tie.Need-wide-requires Inv-loop μ-loop
 wide-requires c κs = search needs
 
 set-mark-requires : tie.Need-set-mark-requires Inv-loop μ-loop
-set-mark-requires c κs = let p = may-matches _ _ _ _ _ (sym (c .before .before .before .before .may-mark .ensures) ∙ not-false _ (c .before .before .before .if2 .left)) .1 in omega (arith, p .from, p .to, c .before .before .before .before .before .before .before .before .before .before .before .before .before .pre .room, c .before .before .before .before .before .before .before .before .before .loop .inv .0)
+set-mark-requires c κs =
+    let at-if2 = c .before .before .before in
+    let at-may-mark = at-if2 .before in
+    let at-loop = at-may-mark .before .before .before .before .before in
+    let entry = at-loop .before .before .before .before in
+    let p = may-matches _ _ _ _ _ (sym (at-may-mark .may-mark .ensures) ∙ not-false _ (at-if2 .if2 .left)) .1 in omega (arith, p .from, p .to, entry .pre .room, at-loop .loop .inv .0)
 
 take-block-requires : tie.Need-take-block-requires Inv-loop μ-loop
-take-block-requires c κs = omega (arith, c .before .before .before .before .before .before .before .before .before .if1 .left, c .before .before .before .before .before .before .before .before .before .before .blocks-in .ensures)
+take-block-requires c κs =
+    let at-if1 = c .before .before .before .before .before .before .before .before .before in
+    let at-blocks-in = at-if1 .before in
+    omega (arith, at-if1 .if1 .left, at-blocks-in .blocks-in .ensures)
 
 loop-less : tie.Need-loop-less Inv-loop μ-loop
-loop-less c = let e = ap (λ (l : Budget). l .blocks) (c .take-block .ensures) in omega (arith, c .before .before .before .before .before .before .before .before .before .before .if1 .left, c .before .before .before .before .before .before .before .before .before .before .before .blocks-in .ensures)
+loop-less c =
+    let at-if1 = c .before .before .before .before .before .before .before .before .before .before in
+    let at-blocks-in = at-if1 .before in
+    let e = ap (λ (l : Budget). l .blocks) (c .take-block .ensures) in omega (arith, at-if1 .if1 .left, at-blocks-in .blocks-in .ensures)
 
 loop-again : tie.Need-loop-again Inv-loop μ-loop
-loop-again c = (marked-long (c .before .before .before .before .before .before .before .before .before .before .before .before .before .loop .marks) _ (c .before .before .before .before .before .before .before .before .before .before .before .before .before .loop .block) (c .before .before .before .set-mark .ensures) ∙ c .before .before .before .before .before .before .before .before .before .before .before .before .before .loop .inv .0, c .before .before .before .before .before .before .before .before .before .before .before .before .before .loop .inv .1 ∙ chain-goes _ _ _ _ _ _ _ _ _ (c .take-block .ensures) _ (c .before .before .before .before .before .wide .ensures ∙ c .before .before .before .before .before .before .next-of .ensures) _ (c .before .before .before .set-mark .ensures) (c .before .before .before .before .before .before .before .before .before .before .before .before .loop-test .taken) (omega (arith, c .before .before .before .before .before .before .before .before .before .before .if1 .left, c .before .before .before .before .before .before .before .before .before .before .before .blocks-in .ensures)) (sym (c .before .before .before .before .before .before .before .before .may-mark .ensures) ∙ not-false _ (c .before .before .before .before .before .before .before .if2 .left)))
+loop-again c =
+    let at-set-mark = c .before .before .before in
+    let at-wide = at-set-mark .before .before in
+    let at-next-of = at-wide .before in
+    let at-if2 = at-next-of .before in
+    let at-may-mark = at-if2 .before in
+    let at-if1 = at-may-mark .before .before in
+    let at-blocks-in = at-if1 .before in
+    let at-loop-test = at-blocks-in .before in
+    let at-loop = at-loop-test .before in
+    let l = at-loop .loop in
+    let may = sym (at-may-mark .may-mark .ensures) ∙ not-false _ (at-if2 .if2 .left) in
+    let marked = at-set-mark .set-mark .ensures in (
+      marked-long (l .marks) _ (l .block) marked ∙ l .inv .0,
+      l .inv .1 ∙ chain-goes _ _ _ _ _ _ _ _ _ (c .take-block .ensures) _ (at-wide .wide .ensures ∙ at-next-of .next-of .ensures) _ marked (at-loop-test .loop-test .taken) (omega (arith, at-if1 .if1 .left, at-blocks-in .blocks-in .ensures)) may,
+    )
 
 same-length-3 : tie.Need-same-length-3 Inv-loop μ-loop
 same-length-3 c = search needs

@@ -29,7 +29,13 @@ is-marked-requires c κs = search needs
 
 returns-4 : tie.Need-returns-4
 unfolding mayMark
-returns-4 c = simp (ne-eqb _ _ (c .before .before .before .before .before .if1 .left), le-ltb _ _ (c .before .before .before .before .if2 .left), ne-eqb _ _ (λ z. c .before .before .if3 .left (c .before .before .before .filed-of .ensures ∙ z)), sym (c .before .is-marked .ensures) ∙ c .if4 .taken)
+returns-4 c =
+    let at-is-marked = c .before in
+    let at-if3 = at-is-marked .before in
+    let at-filed-of = at-if3 .before in
+    let at-if2 = at-filed-of .before in
+    let at-if1 = at-if2 .before in
+    simp (ne-eqb _ _ (at-if1 .if1 .left), le-ltb _ _ (at-if2 .if2 .left), ne-eqb _ _ (λ z. at-if3 .if3 .left (at-filed-of .filed-of .ensures ∙ z)), sym (at-is-marked .is-marked .ensures) ∙ c .if4 .taken)
 
 signature-of-requires : tie.Need-signature-of-requires
 signature-of-requires c κs = search needs
@@ -39,7 +45,16 @@ covers-requires c κs = search needs
 
 returns-5 : tie.Need-returns-5
 unfolding mayMark
-returns-5 c = simp (ne-eqb _ _ (c .before .before .before .before .before .before .before .if1 .left), le-ltb _ _ (c .before .before .before .before .before .before .if2 .left), ne-eqb _ _ (λ z. c .before .before .before .before .if3 .left (c .before .before .before .before .before .filed-of .ensures ∙ z)), sym (c .before .before .before .is-marked .ensures) ∙ c .before .before .if4 .left) (covers-read _ _ _ _ _ (c .before .before .before .before .before .before .before .before .before .before .before .pre .low) (c .covers .ensures .0) (c .before .signature-of .ensures))
+returns-5 c =
+    let at-signature-of = c .before in
+    let at-if4 = at-signature-of .before in
+    let at-is-marked = at-if4 .before in
+    let at-if3 = at-is-marked .before in
+    let at-filed-of = at-if3 .before in
+    let at-if2 = at-filed-of .before in
+    let at-if1 = at-if2 .before in
+    let entry = at-if1 .before .before .before .before in
+    simp (ne-eqb _ _ (at-if1 .if1 .left), le-ltb _ _ (at-if2 .if2 .left), ne-eqb _ _ (λ z. at-if3 .if3 .left (at-filed-of .filed-of .ensures ∙ z)), sym (at-is-marked .is-marked .ensures) ∙ at-if4 .if4 .left) (covers-read _ _ _ _ _ (entry .pre .low) (c .covers .ensures .0) (at-signature-of .signature-of .ensures))
 
 pub may-mark-spec : {M : Type 1} → statement M
 may-mark-spec =
