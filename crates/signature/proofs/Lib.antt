@@ -2,7 +2,6 @@
 pub mod Bits
 pub mod Covering
 pub mod Difference
-pub mod Kept
 pub mod Zeros
 pub mod Number
 mod Examples

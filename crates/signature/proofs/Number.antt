@@ -11,7 +11,7 @@ use lib.Dec.{leb}
 use lib.ListN.{length}
 use Rattle.model.specs.Basics.{upFrom, keep}
 use Rattle.model.specs.Signature.{coversb, zeroBits}
-use Rattle.signature.proofs.Kept.{keep-yes, keep-no}
+use Rattle.model.proofs.Keep.{keep-yes, keep-no}
 use Rattle.signature.proofs.Zeros.{zeros-power}
 
 -- a test as a count: 1 where it holds

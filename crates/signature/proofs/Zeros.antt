@@ -12,8 +12,8 @@ use borrow.Author.Tests.{eqb-true, eq-eqb, ne-eqb}
 use Rattle.model.specs.Basics.{upFrom, keep}
 use Rattle.model.specs.Signature.{bitAt, zeroBits}
 use Rattle.model.proofs.Bits.{bit-cases}
+use Rattle.model.proofs.Keep.{keep-in, in-keep, keep-few, keep-append, keep-cong, keep-all, keep-yes, keep-no, upFrom-range, upFrom-has, upFrom-length, upFrom-last}
 use Rattle.signature.proofs.Bits.{bit-last, bit-half, bit-zero}
-use Rattle.signature.proofs.Kept.{keep-in, in-keep, keep-length, keep-append, keep-same, keep-all, keep-yes, keep-no, from-in, in-from, from-length, from-last}
 
 -- ---- which positions
 
@@ -25,33 +25,33 @@ pub record IsZero (F q j : ℕ) : Type 0 where
 pub zeros-in : (F q j : ℕ) → List·Memᴰ j (zeroBits F q) → IsZero F q j
 zeros-in F q j m =
     let k = keep-in (λ j. eqb (bitAt F q j) 0) (upFrom F 1) j m in
-    let r = from-in F 1 j (k .0) in
+    let r = upFrom-range F 1 j (k .0) in
     let a = r .0 in
     let b = r .1 in
     record { low = a; high = omega arith; zero = eqb-true (bitAt F q j) 0 (k .1) }
 
 pub in-zeros : (F q j : ℕ) → IsZero F q j → List·Memᴰ j (zeroBits F q)
 in-zeros F q j z =
-    in-keep (λ j. eqb (bitAt F q j) 0) (upFrom F 1) j (in-from F 1 j (z .low) (omega (arith, z .high))) (eq-eqb (bitAt F q j) 0 (z .zero))
+    in-keep (λ j. eqb (bitAt F q j) 0) (upFrom F 1) j (upFrom-has F 1 j (z .low) (omega (arith, z .high))) (eq-eqb (bitAt F q j) 0 (z .zero))
 
 -- ---- how many
 
 pub zeros-length : (F q : ℕ) → length (zeroBits F q) ≤ F
-zeros-length F q = omega (arith, keep-length (λ j. eqb (bitAt F q j) 0) (upFrom F 1), from-length F 1)
+zeros-length F q = omega (arith, keep-few (λ j. eqb (bitAt F q j) 0) (upFrom F 1), upFrom-length F 1)
 
 pub zeros-of-zero : (F : ℕ) → length (zeroBits F 0) ≡ F
 zeros-of-zero F =
-    ap length (keep-all (λ j. eqb (bitAt F 0 j) 0) (upFrom F 1) (λ j m. eq-eqb (bitAt F 0 j) 0 (bit-zero F j))) ∙ from-length F 1
+    ap length (keep-all (λ j. eqb (bitAt F 0 j) 0) (upFrom F 1) (λ j m. eq-eqb (bitAt F 0 j) 0 (bit-zero F j))) ∙ upFrom-length F 1
 
 -- the zero bits before the last position are those of the half
 pub zeros-half : (F q : ℕ) → zeroBits (suc F) q ≡ zeroBits F (q / 2) ++ keep (λ j. eqb (bitAt (suc F) q j) 0) (suc F ∷ [])
 zeros-half F q =
     let e : 1 + F ≡ suc F = omega arith in
-    ap (keep (λ j. eqb (bitAt (suc F) q j) 0)) (from-last F 1 ∙ ap (λ (k : ℕ). upFrom F 1 ++ (k ∷ [])) e)
+    ap (keep (λ j. eqb (bitAt (suc F) q j) 0)) (upFrom-last F 1 ∙ ap (λ (k : ℕ). upFrom F 1 ++ (k ∷ [])) e)
     ∙ keep-append (λ j. eqb (bitAt (suc F) q j) 0) (upFrom F 1) (suc F ∷ [])
     ∙ ap (λ (l : List ℕ). l ++ keep (λ j. eqb (bitAt (suc F) q j) 0) (suc F ∷ []))
-    (keep-same (λ j. eqb (bitAt (suc F) q j) 0) (λ j. eqb (bitAt F (q / 2) j) 0) (upFrom F 1)
-    (λ j m. ap (λ (b : ℕ). eqb b 0) (bit-half F q j (within j (from-in F 1 j m .1)))))
+    (keep-cong (λ j. eqb (bitAt (suc F) q j) 0) (λ j. eqb (bitAt F (q / 2) j) 0) (upFrom F 1)
+    (λ j m. ap (λ (b : ℕ). eqb b 0) (bit-half F q j (within j (upFrom-range F 1 j m .1)))))
   where
     within : (j : ℕ) → j < 1 + F → j ≤ F
     within j h = omega arith

@@ -12,7 +12,7 @@ use lib.Dec.{eqb}
 use borrow.Author.Tests.{eq-eqb, ne-eqb}
 use Rattle.model.specs.Basics.{keep}
 use Rattle.model.specs.Words.{others, different}
-use Rattle.signature.proofs.Kept.{keep-yes, keep-no, keep-append}
+use Rattle.model.proofs.Keep.{keep-yes, keep-no, keep-append}
 
 -- how often j stands in a list: only whether this is 0 matters
 unfoldable pub times : ℕ → List ℕ → ℕ
