@@ -18,8 +18,8 @@ use Rattle.model.specs.Promises.{unsound, marksAfter, Matches, Listing, GivenUp
 use Rattle.search.specs.Budget.{Budget, lent}
 use Rattle.search.specs.Marks.{isMarked, listed, cleared}
 use Rattle.search.specs.Search.{pick, walkTwin, listTwin, foundTwin}
-use Rattle.model.proofs.Keep.{keep-none}
-use Rattle.search.proofs.Keeps.{upFrom-in, kept-ascends}
+use Rattle.model.proofs.Keep.{keep-none, upFrom-range}
+use Rattle.search.proofs.Keeps.{kept-ascends}
 use Rattle.search.proofs.Marks.{Grown, grown-none, Went, walk-went}
 use Rattle.search.proofs.Listed.{listed-in, marks-are}
 
@@ -36,7 +36,7 @@ cleared-drop B m = drop-at (replicate B 0) (drop B m) B (length-replicate {A = �
 
 -- marks of 0 list nothing
 pub listed-none : (m : List ℕ) (k : ℕ) → ((i : ℕ) → i < k → getD m i 0 ≡ 0) → listed k m ≡ []
-listed-none m k z = keep-none (isMarked m) (upFrom k 1) (λ b n. let h = upFrom-in k 1 b n in ne-eqb (getD m (b - 1) 0) 1 (omega (arith, z (b - 1) (omega arith))))
+listed-none m k z = keep-none (isMarked m) (upFrom k 1) (λ b n. let h = upFrom-range k 1 b n in ne-eqb (getD m (b - 1) 0) 1 (omega (arith, z (b - 1) (omega arith))))
 
 module _ (sigs links : List ℕ) (q : ℕ) (m out : List ℕ) (le : length sigs ≤ length m) where
   -- marks grown from cleared ones

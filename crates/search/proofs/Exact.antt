@@ -19,14 +19,13 @@ use Rattle.model.specs.Tables.{widthOf, rootOf, filedOf, signatureOf, treeOf}
 use Rattle.model.specs.Sound.{Shape, tip, fork, Rooted, none, some, HoldsRoot, PlacedRoot, Holds, Placed, blocks, blocksIn, Sound}
 use Rattle.model.specs.Ledger.{Report, ledgerOf, matching}
 use Rattle.model.specs.Promises.{marksAfter, outputAfter, searchReport}
-use Rattle.model.proofs.Keep.{keep-cong}
+use Rattle.model.proofs.Keep.{keep-cong, upFrom-range}
 use Rattle.model.proofs.Pigeon.{Distinct}
 use Rattle.tables.proofs.Shapes.{blocks-range, blocks-placed}
 use Rattle.tables.proofs.Trees.{treeShape, treeRooted, tree-of-sound, depth-root}
 use Rattle.search.specs.Budget.{Budget, lent}
 use Rattle.search.specs.Marks.{isMarked, mark, listed, cleared}
 use Rattle.search.specs.Search.{walkTwin, foundTwin}
-use Rattle.search.proofs.Keeps.{upFrom-in}
 use Rattle.search.proofs.Steps.{found-empty, found-list}
 use Rattle.search.proofs.Marks.{Went}
 use Rattle.search.proofs.Listed.{marks-are, tested, matching-kept}
@@ -105,7 +104,7 @@ module _ (sigs links : List ℕ) (q : ℕ) (m out : List ℕ) (S : Sound sigs li
   -- marks whose test is the ledger's
   list-is : (m′ : List ℕ) → ((b : ℕ) → 1 ≤ b → b ≤ B → isMarked m′ b ≡ tested sigs links q b) → listed B m′ ≡ matching q (ledgerOf sigs links)
   list-is m′ h =
-      keep-cong (isMarked m′) (tested sigs links q) (upFrom B 1) (λ b n. let r = upFrom-in B 1 b n in h b (r .0) (omega arith))
+      keep-cong (isMarked m′) (tested sigs links q) (upFrom B 1) (λ b n. let r = upFrom-range B 1 b n in h b (r .0) (omega arith))
       ∙ sym (matching-kept sigs links q)
 
   -- what a search of sound tables gives

@@ -1,29 +1,13 @@
 -- The entries that a test keeps of the numbers from j on: one number more, and that they ascend.
 -- Assumes nothing.
-use Prim.Native.Nat.{ℕ, zero, suc, _+_, _≤_, _<_}
+use Prim.Native.Nat.{ℕ, zero, suc, _+_, _≤_}
 use native.Mathlib.Omega.{arith}
 use mathlib.Core.Path.{_≡_, refl, sym, _∙_, ap, subst}
-use mathlib.Core.Logic.{_⊎_, inl, inr}
 use mathlib.Core.Bool.{Bool, true, false}
-use mathlib.Core.List.{List, [], _∷_, _++_, List·Memᴰ, List·Memᴰ·cases-cons, List·Memᴰ·not-nil}
+use mathlib.Core.List.{List, [], _∷_, _++_}
 use Rattle.model.specs.Basics.{keep, upFrom, Ascending}
-use Rattle.model.proofs.Keep.{keep-yes, keep-no, keep-append}
+use Rattle.model.proofs.Keep.{keep-yes, keep-no, keep-append, upFrom-last}
 use Rattle.search.specs.Search.{pick}
-
--- the numbers from j on
-pub upFrom-in : (n j b : ℕ) → List·Memᴰ b (upFrom n j) → (j ≤ b) × (b < j + n)
-unfolding upFrom
-upFrom-in zero j b m = absurd (List·Memᴰ·not-nil m)
-upFrom-in (suc n) j b m = go (List·Memᴰ·cases-cons m) (upFrom-in n (suc j) b)
-  where
-    go : (b ≡ j) ⊎ List·Memᴰ b (upFrom n (suc j)) → (List·Memᴰ b (upFrom n (suc j)) → (suc j ≤ b) × (b < suc j + n)) → (j ≤ b) × (b < j + suc n)
-    go (inl e) ih = omega arith
-    go (inr k) ih = let r = ih k in omega arith
-
-upFrom-last : (n j : ℕ) → upFrom (suc n) j ≡ upFrom n j ++ ((j + n) ∷ [])
-unfolding upFrom
-upFrom-last zero j = let e : j + 0 ≡ j = omega arith in rw e
-upFrom-last (suc n) j = let e : suc j + n ≡ j + suc n = omega arith in ap (λ (l : List ℕ). j ∷ l) (upFrom-last n (suc j) ∙ rw e)
 
 -- no number, and one number more
 pub keep-empty : (test : ℕ → Bool) → keep test (upFrom 0 1) ≡ []

@@ -17,9 +17,8 @@ use Rattle.model.specs.Tables.{widthOf, filedOf, signatureOf}
 use Rattle.model.specs.Ledger.{entryIn, entriesFrom, matchingFrom, matching, ledgerOf}
 use Rattle.model.specs.Promises.{marksFrom, marksAfter}
 use Rattle.model.proofs.Members.{in-has, in-not}
-use Rattle.model.proofs.Keep.{keep-yes, keep-no, keep-in, in-keep, upFrom-has}
+use Rattle.model.proofs.Keep.{keep-yes, keep-no, keep-in, in-keep, upFrom-has, upFrom-range}
 use Rattle.search.specs.Marks.{isMarked, listed}
-use Rattle.search.proofs.Keeps.{upFrom-in}
 
 -- block b of the first B is marked
 abbrev pub Marked : ℕ → List ℕ → ℕ → Type 0
@@ -28,7 +27,7 @@ Marked B m b = (1 ≤ b) × (b ≤ B) × (getD m (b - 1) 0 ≡ 1)
 pub listed-in : (B : ℕ) (m : List ℕ) (b : ℕ) → List·Memᴰ b (listed B m) → Marked B m b
 listed-in B m b n =
     let r = keep-in (isMarked m) (upFrom B 1) b n in
-    let k = upFrom-in B 1 b (r .0) in
+    let k = upFrom-range B 1 b (r .0) in
     (omega arith, omega arith, eqb-true _ _ (r .1))
 
 pub listed-has : (B : ℕ) (m : List ℕ) (b : ℕ) → Marked B m b → List·Memᴰ b (listed B m)
