@@ -1,21 +1,12 @@
 //! Ratios in one run: the library's calls beside a linear scan and beside the same algorithms hand-written in unsafe Rust, on the same
 //! tables and queries. No caller clears a buffer first: the marks hold the last search's, and each search sets its own.
+#[path = "../examples/c_face.rs"]
+mod c_face;
 mod hand;
 
+use c_face::*;
 use std::hint::black_box;
 use std::time::Instant;
-
-extern "C" {
-    fn sigtree_clear(s: *mut u64, n: usize, l: *mut u32, m: usize, width: u32) -> u32;
-    fn sigtree_file(s: *mut u64, n: usize, l: *mut u32, m: usize, block: u32, signature: u64) -> u32;
-    fn sigtree_withdraw(s: *mut u64, n: usize, l: *mut u32, m: usize, block: u32) -> u32;
-    fn sigtree_rebuild(s: *const u64, n: usize, l: *mut u32, m: usize, scratch: *mut u32, k: usize) -> u32;
-    fn sigtree_search(
-        s: *const u64, n: usize, l: *const u32, m: usize, query: u64, marks: *mut u8, k: usize, output: *mut u32, o: usize,
-        found: *mut u32, compares: *mut u32, bits: *mut u32,
-    ) -> u32;
-    fn sigtree_audit(s: *const u64, n: usize, l: *const u32, m: usize) -> u32;
-}
 
 struct Rng(u64);
 

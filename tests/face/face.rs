@@ -1,21 +1,6 @@
 //! The C face, with every slice lent between guard words.
+use crate::c_face::*;
 use crate::rng::Rng;
-
-extern "C" {
-    fn sigtree_clear(s: *mut u64, n: usize, l: *mut u32, m: usize, width: u32) -> u32;
-    fn sigtree_file(s: *mut u64, n: usize, l: *mut u32, m: usize, block: u32, signature: u64) -> u32;
-    fn sigtree_withdraw(s: *mut u64, n: usize, l: *mut u32, m: usize, block: u32) -> u32;
-    fn sigtree_rebuild(s: *const u64, n: usize, l: *mut u32, m: usize, scratch: *mut u32, k: usize) -> u32;
-    fn sigtree_search(
-        s: *const u64, n: usize, l: *const u32, m: usize, query: u64, marks: *mut u8, k: usize, output: *mut u32, o: usize,
-        found: *mut u32, compares: *mut u32, bits: *mut u32,
-    ) -> u32;
-    fn sigtree_audit(s: *const u64, n: usize, l: *const u32, m: usize) -> u32;
-    fn sigtree_slip(
-        slip: *const u8, length: usize, s: *mut u64, n: usize, l: *mut u32, m: usize, scratch: *mut u32, c: usize, marks: *mut u8, k: usize,
-        output: *mut u32, o: usize, found: *mut u32, compares: *mut u32, bits: *mut u32,
-    ) -> u32;
-}
 
 #[derive(Clone, Debug, PartialEq, Eq)]
 pub struct Report {

@@ -1,5 +1,7 @@
 //! Drives the C face with random direct calls and slips, good and bad, on sound and on corrupted tables, and holds every answer,
 //! count, list, mark and word to an independent reading of the request. Guard words stand around every buffer.
+#[path = "../../examples/c_face.rs"]
+mod c_face;
 mod face;
 mod reference;
 mod rng;

@@ -4,7 +4,7 @@ mod input;
 mod text;
 
 ghost use mathlib.Core.Path.{_≡_};
-ghost use Prim.Native.Nat.{_+_, _*_, _≤_, _<_};
+ghost use Prim.Native.Nat.{_+_, _*_, _/_, _≤_, _<_};
 ghost use lib.ListN.{length};
 ghost use Rattle.sigtree.specs.Face.{lent};
 ghost use Rattle.runner.specs.Served.{Served};
@@ -51,7 +51,7 @@ fn drain(
     text: &mut [u8],
 ) -> usize
     requires { ⌜ (end ≤ length (now bytes)) × (48 + 11 * length (now output) ≤ length (now text)) ⌝ }
-    ensures { λ r. ⌜ (r ≤ end) × (end < r + 16) ⌝ }
+    ensures { λ r. ⌜ r ≡ 16 * (end / 16) ⌝ }
 {
     let most = 48 + 11 * output.len();
     let mut at = 0;

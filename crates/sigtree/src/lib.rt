@@ -89,11 +89,11 @@ pub extern "C" fn sigtree_slip(
 ) -> u32
     ensures { λ r. ⌜ SlipPromise (now (slip .entry)) (lent (now (signatures .entry)) (now (links .entry)) (now (scratch .entry)) (now (marks .entry)) (now (output .entry))) (reported r (now (found .exit)) (now (compares .exit)) (now (bits .exit))) (lent (now (signatures .exit)) (now (links .exit)) (now (scratch .exit)) (now (marks .exit)) (now (output .exit))) ⌝ }
 {
-    let report = slip::carry_out(slip, signatures, links, scratch, marks, output);
-    *found = report.found;
-    *compares = report.compares;
-    *bits = report.bits;
-    report.answer
+    let carried = slip::carry_out(slip, signatures, links, scratch, marks, output);
+    *found = carried.found;
+    *compares = carried.compares;
+    *bits = carried.bits;
+    carried.answer
 }
 
 // The signature of a text.

@@ -1,6 +1,6 @@
 -- `runner::drain` meets its contract. The invariant keeps all lengths, so that there is room for a line at each turn.
 -- Assumes nothing.
-use Prim.Native.Nat.{_≤_, _-_}
+use Prim.Native.Nat.{_≤_, _-_, _%_}
 use mathlib.Core.Path.{_≡_}
 use lib.ListN.{length}
 use borrow.Author.Needs.{needs}
@@ -9,7 +9,7 @@ use Rattle.runner.proofs.drain.Tie as tie
 
 abbrev Inv-loop : tie.InvT-loop
 Inv-loop signatures₀ links₀ scratch₀ marks₀ output₀ bytes end text₀ most at₀ used₀ signatures links scratch marks output text at used =
-    (at ≤ end) × (used ≤ length text) × (length text ≡ length text₀) × (length signatures ≡ length signatures₀) × (length links ≡ length links₀) × (length scratch ≡ length scratch₀) × (length marks ≡ length marks₀) × (length output ≡ length output₀)
+    (at ≤ end) × (at % 16 ≡ 0) × (used ≤ length text) × (length text ≡ length text₀) × (length signatures ≡ length signatures₀) × (length links ≡ length links₀) × (length scratch ≡ length scratch₀) × (length marks ≡ length marks₀) × (length output ≡ length output₀)
 
 abbrev μ-loop : tie.MeasureT-loop
 μ-loop signatures₀ links₀ scratch₀ marks₀ output₀ bytes end text₀ most at₀ used₀ signatures links scratch marks output text at used = end - at
