@@ -12,14 +12,10 @@ use Rattle.model.specs.Sound.{Shape, tip, fork, Rooted, none, some, Holds, Hold
 use Rattle.model.proofs.Pigeon.{Distinct, distinct-append, downFrom, downFrom-has}
 use Rattle.tables.proofs.Shapes.{blocks-range, nodes-range, blocks-placed}
 use Rattle.tables.proofs.Distinct.{blocks-distinct, nodes-distinct}
-use Rattle.tables.proofs.Counts.{free-range, free-no-return}
+use Rattle.tables.proofs.Counts.{free-range, free-distinct}
 use Rattle.audit.proofs.Counting.{filedList, filed-has}
 
 module _ (B : ℕ) (L : List ℕ) where
-  free-distinct : (r : ℕ) (is : List ℕ) → FreeChain B L r is → Distinct is
-  free-distinct r [] q = tt
-  free-distinct r (i ∷ is) q = (free-no-return B L r i is q, free-distinct (leftOf B L i) is (q .5))
-
   free-blank : (r : ℕ) (is : List ℕ) → FreeChain B L r is → (j : ℕ) → List·Memᴰ j is → positionOf B L j ≡ 0
   free-blank r [] q j m = absurd (List·Memᴰ·not-nil m)
   free-blank r (i ∷ is) q j m = go (List·Memᴰ·cases-cons m) (free-blank (leftOf B L i) is (q .5) j)

@@ -1,32 +1,19 @@
--- A list with no element twice, inside one that is no longer, has all of its elements; and the filed blocks as such a list.
+-- The filed blocks of 1 to n as a list with none twice: as long as their number, and with each of them.
 -- Assumes nothing.
 use Prim.Native.Nat.{ℕ, zero, suc, _≤_}
 use native.Mathlib.Decide.{ℕ-discrete}
 use native.Mathlib.Omega.{arith}
 use mathlib.Core.Path.{_≡_, refl, ap}
-use mathlib.Core.Logic.{_⊎_, inl, inr}
-use mathlib.Core.Bool.{Bool, true, false}
-use mathlib.Core.List.{List, _∷_, List·Memᴰ, List·Memᴰ·cases-cons, Memᴰ·cast}
+use mathlib.Core.Bool.{Bool}
+use mathlib.Core.List.{List, List·Memᴰ}
 use lib.Dec.{eqb}
 use lib.ListN.{length}
 use borrow.Author.Tests.{eq-eqb, ne-eqb, eqb-true}
-use Rattle.model.specs.Basics.{keep, has}
+use Rattle.model.specs.Basics.{keep}
 use Rattle.model.specs.Tables.{filedOf}
 use Rattle.model.specs.Sound.{filedUpTo}
-use Rattle.model.proofs.Pigeon.{Distinct, distinct-fits, downFrom, downFrom-has, downFrom-range, downFrom-distinct}
-use Rattle.model.proofs.Members.{has-in, not-in}
+use Rattle.model.proofs.Pigeon.{Distinct, downFrom, downFrom-has, downFrom-range, downFrom-distinct}
 use Rattle.model.proofs.Keep.{keep-yes, keep-no, keep-in, in-keep, keep-distinct}
-
-pub full : (xs ys : List ℕ) → Distinct xs → ((x : ℕ) → List·Memᴰ x xs → List·Memᴰ x ys) → length ys ≤ length xs → (y : ℕ) → List·Memᴰ y ys → List·Memᴰ y xs
-full xs ys d i h y m = go (has y xs) refl
-  where
-    more : (x : ℕ) → (x ≡ y) ⊎ List·Memᴰ x xs → List·Memᴰ x ys
-    more x (inl e) = Memᴰ·cast e m
-    more x (inr k) = i x k
-
-    go : (t : Bool) → has y xs ≡ t → List·Memᴰ y xs
-    go true e = has-in y xs e
-    go false e = absurd (omega (arith, distinct-fits (y ∷ xs) ys (not-in y xs e, d) (λ x k. more x (List·Memᴰ·cases-cons k))))
 
 abbrev pub isFiled : List ℕ → ℕ → Bool
 isFiled L b = eqb (filedOf L b) 1

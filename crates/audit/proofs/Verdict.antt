@@ -16,13 +16,14 @@ use Rattle.model.specs.Sound.{nodesIn, blocksIn, filedUpTo, Sound}
 use Rattle.model.specs.Questions.{asksTables, tablesFit, ask, auditRefusal}
 use Rattle.model.specs.Promises.{unsound, AuditPromise}
 use Rattle.model.proofs.Pigeon.{distinct-fits, downFrom, downFrom-length, downFrom-range, downFrom-has, downFrom-distinct}
+use Rattle.model.proofs.Members.{full}
 use Rattle.tables.proofs.Fits.{fits-of}
 use Rattle.audit.specs.declared.walk.Part.{Part}
 use Rattle.audit.specs.Audit.{Fits, rowsOk, treeTwin, lentTree, soundb, auditTwin}
 use Rattle.audit.proofs.Picks.{no-bool, pick-true}
 use Rattle.audit.proofs.RowLaws.{rows-yes, rows-whole}
 use Rattle.audit.proofs.FreeLaws.{free-yes, free-whole}
-use Rattle.audit.proofs.Counting.{full, filedList, filed-length, filed-in, filed-has, filed-distinct}
+use Rattle.audit.proofs.Counting.{filedList, filed-length, filed-in, filed-has, filed-distinct}
 use Rattle.audit.proofs.Apart.{tree-blocks-distinct, tree-blocks-filed, apart, all-distinct, all-range}
 use Rattle.audit.proofs.WalkYes.{tree-yes}
 use Rattle.audit.proofs.WalkWhole.{tree-whole}

@@ -20,7 +20,7 @@ use Rattle.file.specs.Plan.{isPlan, planStores, SplitPlan, Plans}
 use Rattle.file.specs.declared.plan.Plan.{Plan}
 use Rattle.file.specs.declared.plan.Plan.the-variants.{Unfit, First, Join, Split}
 use Rattle.file.proofs.Good.{Fileable}
-use Rattle.file.proofs.Asked.{not-block}
+use Rattle.model.proofs.Asking.{not-in-range}
 use Rattle.file.proofs.Cases.{links-first, links-join, links-split, room, at-leaf, spare, some-tree}
 
 -- the split that the code makes
@@ -58,7 +58,7 @@ module _ (sigs links : List ℕ) (b s : ℕ) (from : 1 ≤ b) (to : b ≤ length
 
       -- no leaf at the walk's end
       pub plan-no-leaf : (leb 1 (word links link) && leb (word links link) (length sigs)) ≡ false → Plans sigs links b s Unfit
-      plan-no-leaf f S u = let l = leaf-there S u in not-block (word links link) (length sigs) f (l .0) (l .1)
+      plan-no-leaf f S u = let l = leaf-there S u in not-in-range (word links link) (length sigs) f (l .0) (l .1)
 
       module _ (leaf : 1 ≤ word links link) where
         pub plan-join : (a : ℕ) → a ≡ signatureOf sigs (word links link) → a ≡ s → Plans sigs links b s (Join (word links link))

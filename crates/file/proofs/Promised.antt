@@ -1,31 +1,28 @@
 -- The promise of file, by what its code finds: a first no, no plan, or a plan carried out.
 -- Assumes nothing.
 use Prim.Native.Nat.{ℕ, _-_}
-use native.Mathlib.Omega.{arith}
 use mathlib.Core.Path.{_≡_, refl, _∙_, ap}
 use mathlib.Core.Logic.{inl, inr, _≢_}
-use mathlib.Core.Bool.{Bool, true, false}
+use mathlib.Core.Bool.{false}
 use mathlib.Core.List.{List}
 use lib.ListN.{length, length-set}
 use Rattle.model.specs.Stores.{stores}
 use Rattle.model.specs.File.{fileSignatures}
 use Rattle.model.specs.Questions.{asksTables, fileRefusal}
 use Rattle.model.specs.Promises.{FilePromise}
+use Rattle.model.proofs.Asking.{true-false}
 use Rattle.model.proofs.Stores.{length-stores}
 use Rattle.file.specs.Plan.{isPlan, planStores, Plans}
 use Rattle.file.specs.declared.plan.Plan.{Plan}
 use Rattle.file.specs.declared.plan.Plan.the-variants.{Unfit, First, Join, Split}
 use Rattle.file.proofs.Asked.{passed}
 
-not-both : {t : Bool} → t ≡ true → t ≡ false → ⊥
-not-both x y = let z : _≡_ {A = ℕ} 0 1 = cc in omega arith
-
 -- without a plan nothing is stored
 no-stores : (B : ℕ) (links : List ℕ) (b : ℕ) (p : Plan) → isPlan p ≡ false → stores links (planStores B links b p) ≡ links
 no-stores B links b Unfit e = refl
-no-stores B links b First e = absurd (not-both refl e)
-no-stores B links b (Join h) e = absurd (not-both refl e)
-no-stores B links b (Split at h f p e′) e = absurd (not-both refl e)
+no-stores B links b First e = true-false refl e
+no-stores B links b (Join h) e = true-false refl e
+no-stores B links b (Split at h f p e′) e = true-false refl e
 
 module _ (sigs links : List ℕ) (b s : ℕ) where
   pub promise-refused : (r : ℕ) → r ≡ fileRefusal (asksTables sigs links) b s → r ≢ 0 → FilePromise sigs links b s r sigs links
@@ -35,7 +32,7 @@ module _ (sigs links : List ℕ) (b s : ℕ) where
     pub promise-eleven : isPlan p ≡ false → FilePromise sigs links b s 11 sigs links′
     promise-eleven f = record {
       refused = λ n. absurd (n none);
-      done = λ _ S. absurd (not-both (P S (passed sigs links b s none .unfiled) .0) f);
+      done = λ _ S. true-false (P S (passed sigs links b s none .unfiled) .0) f;
       anyway = λ _. inr (refl, refl, l ∙ no-stores (length sigs) links b p f);
     }
 

@@ -19,14 +19,17 @@ module _ (F : ℕ) (of : ℕ → ℕ) where
   pub side-same : (p e : ℕ) (k l : List ℕ) → Same k l → Same (side F of p e k) (side F of p e l)
   side-same p e k l h = keep-same (λ x. eqb (bitAt F (of x) p) e) k l h
 
-  smaller-same : (p : ℕ) (k l : List ℕ) → Same k l → smaller F of p k ≡ smaller F of p l
+  pub smaller-same : (p : ℕ) (k l : List ℕ) → Same k l → smaller F of p k ≡ smaller F of p l
   unfolding smaller
   smaller-same p k l h = ap₂ min (same-length (side F of p 0 k) (side F of p 0 l) (side-same p 0 k l h)) (same-length (side F of p 1 k) (side F of p 1 l) (side-same p 1 k l h))
 
-  best-same : (k l : List ℕ) → Same k l → (best : ℕ) (ps : List ℕ) → bestOf F of k best ps ≡ bestOf F of l best ps
+  among-same : (k l : List ℕ) → Same k l → (best : ℕ) (ps : List ℕ) → bestOf F of k best ps ≡ bestOf F of l best ps
   unfolding bestOf
-  best-same k l h best [] = refl
-  best-same k l h best (p ∷ ps) = rw (smaller-same best k l h, smaller-same p k l h) (best-same k l h _ ps)
+  among-same k l h best [] = refl
+  among-same k l h best (p ∷ ps) = rw (smaller-same best k l h, smaller-same p k l h) (among-same k l h _ ps)
+
+  pub best-same : (k l : List ℕ) → Same k l → bestPosition F of k ≡ bestPosition F of l
+  best-same k l h = among-same k l h 1 (upFrom (F - 1) 2)
 
 within-same : (n F : ℕ) (k l : List ℕ) → Same k l → buildWithin n F k ≡ buildWithin n F l
 unfolding buildWithin
@@ -39,7 +42,7 @@ within-same (suc n) F (x ∷ []) (y ∷ z ∷ l) h = absurd (omega (arith, same-
 within-same (suc n) F (x ∷ w ∷ k) (y ∷ []) h = absurd (omega (arith, same-length (x ∷ w ∷ k) (y ∷ []) h))
 within-same (suc n) F (x ∷ w ∷ k) (y ∷ z ∷ l) h =
     let p : ℕ = bestPosition F (λ s. s) (y ∷ z ∷ l) in
-    let e : bestPosition F (λ s. s) (x ∷ w ∷ k) ≡ p = best-same F (λ s. s) (x ∷ w ∷ k) (y ∷ z ∷ l) h 1 (upFrom (F - 1) 2) in
+    let e : bestPosition F (λ s. s) (x ∷ w ∷ k) ≡ p = best-same F (λ s. s) (x ∷ w ∷ k) (y ∷ z ∷ l) h in
     let at : (b : ℕ) → buildWithin n F (side F (λ s. s) p b (x ∷ w ∷ k)) ≡ buildWithin n F (side F (λ s. s) p b (y ∷ z ∷ l)) =
     λ b. within-same n F (side F (λ s. s) p b (x ∷ w ∷ k)) (side F (λ s. s) p b (y ∷ z ∷ l)) (side-same F (λ s. s) p b (x ∷ w ∷ k) (y ∷ z ∷ l) h) in
     rw (e, at 0, at 1)

@@ -1,22 +1,21 @@
 -- A rebuild of distinct signatures below 2 ^ F is a proper tree with these leaves: two of them differ at some position, so the best
 -- position has an entry on each side, and no position tested above has, since there all agree.
 -- Assumes nothing.
-use Prim.Native.Nat.{ℕ, zero, suc, _+_, _^_, _≤_, _<_, min}
+use Prim.Native.Nat.{ℕ, zero, suc, _^_, _≤_, _<_, min}
 use native.Mathlib.Omega.{arith}
-use mathlib.Core.Path.{_≡_, refl, sym, _∙_, ap}
+use mathlib.Core.Path.{_≡_, refl, sym, _∙_}
 use mathlib.Core.Logic.{_⊎_, inl, inr, _≢_}
 use mathlib.Core.List.{List, [], _∷_, List·Memᴰ, List·Memᴰ·head, List·Memᴰ·tail, List·Memᴰ·not-nil}
 use lib.Dec.{eqb}
 use lib.ListN.{length}
-use borrow.Author.Tests.{eqb-true, eq-eqb, ne-eqb}
-use Rattle.model.specs.Basics.{keep}
 use Rattle.model.specs.Signature.{bitAt, firstDifference}
 use Rattle.model.specs.Tree.{Tree, signatures, Edge, edge, Agrees}
 use Rattle.model.specs.Build.{side, smaller, bestPosition, buildWithin, build}
 use Rattle.model.proofs.Bits.{bit-cases}
 use Rattle.model.proofs.Pigeon.{Distinct}
-use Rattle.model.proofs.Members.{total, total-append, Same, total-one}
-use Rattle.model.proofs.Keep.{keep-yes, keep-no, keep-in, in-keep, keep-distinct}
+use Rattle.model.proofs.Members.{total-append, Same}
+use Rattle.model.proofs.Keep.{keep-distinct}
+use Rattle.model.proofs.Sides.{side-member, side-has, sides-total, sides-length}
 use Rattle.model.proofs.Trees.{Below, Proper, untested}
 use Rattle.model.proofs.Best.{best-position}
 use Rattle.model.proofs.Differ.{first-differs}
@@ -34,31 +33,6 @@ module _ (F : ℕ) where
   abbrev half : ℕ → ℕ → List ℕ → List ℕ
   half p e = side F (λ s. s) p e
 
-  half-in : (p e : ℕ) (l : List ℕ) (s : ℕ) → List·Memᴰ s (half p e l) → List·Memᴰ s l × (bitAt F s p ≡ e)
-  half-in p e l s m = let r = keep-in (λ x. eqb (bitAt F x p) e) l s m in (r .0, eqb-true (bitAt F s p) e (r .1))
-
-  in-half : (p e : ℕ) (l : List ℕ) (s : ℕ) → List·Memᴰ s l → bitAt F s p ≡ e → List·Memᴰ s (half p e l)
-  in-half p e l s m h = in-keep (λ x. eqb (bitAt F x p) e) l s m (eq-eqb (bitAt F s p) e h)
-
-  -- each signature is on one side
-  halves-total : (p : ℕ) (f : ℕ → ℕ) (l : List ℕ) → total f (half p 0 l) + total f (half p 1 l) ≡ total f l
-  unfolding keep
-  halves-total p f [] = refl
-  halves-total p f (s ∷ l) = go (bit-cases F s p) (halves-total p f l)
-    where
-      yes-at : (e : ℕ) → bitAt F s p ≡ e → total f (half p e (s ∷ l)) ≡ f s + total f (half p e l)
-      yes-at e h = ap (total f) (keep-yes (λ x. eqb (bitAt F x p) e) s l (eq-eqb (bitAt F s p) e h))
-
-      no-at : (e : ℕ) → bitAt F s p ≢ e → total f (half p e (s ∷ l)) ≡ total f (half p e l)
-      no-at e h = ap (total f) (keep-no (λ x. eqb (bitAt F x p) e) s l (ne-eqb (bitAt F s p) e h))
-
-      go : (bitAt F s p ≡ 0) ⊎ (bitAt F s p ≡ 1) → total f (half p 0 l) + total f (half p 1 l) ≡ total f l → total f (half p 0 (s ∷ l)) + total f (half p 1 (s ∷ l)) ≡ f s + total f l
-      go (inl z) ih = omega (arith, yes-at 0 z, no-at 1 (omega arith))
-      go (inr o) ih = omega (arith, no-at 0 (omega arith), yes-at 1 o)
-
-  halves-length : (p : ℕ) (l : List ℕ) → length (half p 0 l) + length (half p 1 l) ≡ length l
-  halves-length p l = omega (arith, halves-total p (λ _. 1) l, total-one (half p 0 l), total-one (half p 1 l), total-one l)
-
   -- the best position of two or more distinct signatures has an entry on each side
   record Parts (l : List ℕ) : Type 0 where
     from : 1 ≤ bestPosition F (λ s. s) l
@@ -71,8 +45,8 @@ module _ (F : ℕ) where
     where
       go : (bitAt F s p ≡ 0) ⊎ (bitAt F s p ≡ 1) → (bitAt F u p ≡ 0) ⊎ (bitAt F u p ≡ 1) → 1 ≤ min (length (half p 0 l)) (length (half p 1 l))
       go (inl x) (inl y) = absurd (d (x ∙ sym y))
-      go (inl x) (inr y) = omega (arith, in-some _ _ (in-half p 0 l s m x), in-some _ _ (in-half p 1 l u n y))
-      go (inr x) (inl y) = omega (arith, in-some _ _ (in-half p 0 l u n y), in-some _ _ (in-half p 1 l s m x))
+      go (inl x) (inr y) = omega (arith, in-some _ _ (side-has F (λ x. x) p 0 l s m x), in-some _ _ (side-has F (λ x. x) p 1 l u n y))
+      go (inr x) (inl y) = omega (arith, in-some _ _ (side-has F (λ x. x) p 0 l u n y), in-some _ _ (side-has F (λ x. x) p 1 l s m x))
       go (inr x) (inr y) = absurd (d (x ∙ sym y))
 
   parts : (l : List ℕ) (s u : ℕ) → List·Memᴰ s l → List·Memᴰ u l → s ≢ u → s < 2 ^ F → u < 2 ^ F → Parts l
@@ -107,16 +81,16 @@ module _ (F : ℕ) where
       let q = parts l s u ms mu (λ e. d .0 (List·Memᴰ·head e)) (a s ms .0) (a u mu .0) in
       let z = some-in (half p 0 l) (q .some 0 (omega arith)) in
       let o = some-in (half p 1 l) (q .some 1 (omega arith)) in
-      let iz = half-in p 0 l (z .0) (z .1) in
-      let io = half-in p 1 l (o .0) (o .1) in
-      let long = halves-length p l in
+      let iz = side-member F (λ x. x) p 0 l (z .0) (z .1) in
+      let io = side-member F (λ x. x) p 1 l (o .0) (o .1) in
+      let long = sides-length F (λ x. x) p l in
       let many0 = q .some 0 (omega arith) in
       let many1 = q .some 1 (omega arith) in
       let new = untested F (z .0) (o .0) p es (a (z .0) (iz .0) .1) (a (o .0) (io .0) .1) (λ e. omega (arith, iz .1, io .1)) in
-      let agree : (e x : ℕ) → List·Memᴰ x (half p e l) → (x < 2 ^ F) × Agrees F x (edge p e ∷ es) = λ e x m. let i = half-in p e l x m in (a x (i .0) .0, (i .1, a x (i .0) .1)) in
+      let agree : (e x : ℕ) → List·Memᴰ x (half p e l) → (x < 2 ^ F) × Agrees F x (edge p e ∷ es) = λ e x m. let i = side-member F (λ x. x) p e l x m in (a x (i .0) .0, (i .1, a x (i .0) .1)) in
       let left = within-proper n (edge p 0 ∷ es) (half p 0 l) (omega arith) many0 (keep-distinct (λ x. eqb (bitAt F x p) 0) l d) (agree 0) in
       let right = within-proper n (edge p 1 ∷ es) (half p 1 l) (omega arith) many1 (keep-distinct (λ x. eqb (bitAt F x p) 1) l d) (agree 1) in
-      ((q .from, q .to, new, left .0, right .0), λ f. omega (arith, total-append f (signatures (buildWithin n F (half p 0 l))) (signatures (buildWithin n F (half p 1 l))), left .1 f, right .1 f, halves-total p f l))
+      ((q .from, q .to, new, left .0, right .0), λ f. omega (arith, total-append f (signatures (buildWithin n F (half p 0 l))) (signatures (buildWithin n F (half p 1 l))), left .1 f, right .1 f, sides-total F (λ x. x) p f l))
 
   pub build-proper : (ss : List ℕ) → Distinct ss → ((s : ℕ) → List·Memᴰ s ss → s < 2 ^ F) → Proper F (build F ss) × Same (signatures (build F ss)) ss
   unfolding buildWithin signatures

@@ -3,6 +3,8 @@ pub mod Pigeon
 pub mod Stores
 pub mod Members
 pub mod Keep
+pub mod Asking
+pub mod Sides
 pub mod Trees
 pub mod Paths
 pub mod Compared

@@ -1,6 +1,6 @@
 -- Membership as a test, each element once, and sums over lists with the same elements.
 -- Assumes nothing.
-use Prim.Native.Nat.{ℕ, _+_, _-_}
+use Prim.Native.Nat.{ℕ, _+_, _≤_}
 use native.Mathlib.Omega.{arith}
 use mathlib.Core.Path.{_≡_, refl, sym, _∙_, ap}
 use mathlib.Core.Logic.{_⊎_, inl, inr}
@@ -9,7 +9,7 @@ use mathlib.Core.List.{List, [], _∷_, _++_, List·Memᴰ, List·Memᴰ·head, 
 use lib.Dec.{eqb}
 use lib.ListN.{length}
 use borrow.Author.Tests.{eqb-true, eqb-false}
-use Rattle.model.proofs.Pigeon.{Distinct, without, without-keeps, without-in, without-gone}
+use Rattle.model.proofs.Pigeon.{Distinct, distinct-fits, without, without-keeps, without-in, without-gone}
 use Rattle.model.specs.Basics.{has, once}
 
 pub has-in : (s : ℕ) (l : List ℕ) → has s l ≡ true → List·Memᴰ s l
@@ -50,6 +50,18 @@ in-not s l f = go (has s l) refl
     go : (t : Bool) → has s l ≡ t → has s l ≡ false
     go true e = absurd (f (has-in s l e))
     go false e = e
+
+-- a list with no element twice, inside one that is no longer, has all of its elements
+pub full : (xs ys : List ℕ) → Distinct xs → ((x : ℕ) → List·Memᴰ x xs → List·Memᴰ x ys) → length ys ≤ length xs → (y : ℕ) → List·Memᴰ y ys → List·Memᴰ y xs
+full xs ys d i h y m = go (has y xs) refl
+  where
+    more : (x : ℕ) → (x ≡ y) ⊎ List·Memᴰ x xs → List·Memᴰ x ys
+    more x (inl e) = Memᴰ·cast e m
+    more x (inr k) = i x k
+
+    go : (t : Bool) → has y xs ≡ t → List·Memᴰ y xs
+    go true e = has-in y xs e
+    go false e = absurd (omega (arith, distinct-fits (y ∷ xs) ys (not-in y xs e, d) (λ x k. more x (List·Memᴰ·cases-cons k))))
 
 pub once-in : (l : List ℕ) (s : ℕ) → List·Memᴰ s (once l) → List·Memᴰ s l
 unfolding once

@@ -1,11 +1,13 @@
--- Reading the links after some stores.
+-- Reading the links after some stores, and a run of words stored after another.
 -- Assumes nothing.
-use Prim.Native.Nat.{ℕ, _<_}
-use mathlib.Core.Path.{_≡_, refl, _∙_}
+use Prim.Native.Nat.{ℕ, suc, _+_, _<_}
+use native.Mathlib.Nat.{add-zero}
+use native.Mathlib.Omega.{arith}
+use mathlib.Core.Path.{_≡_, refl, sym, _∙_, ap}
 use mathlib.Core.Logic.{_≢_}
-use mathlib.Core.List.{List, [], _∷_}
+use mathlib.Core.List.{List, [], _∷_, _++_}
 use lib.ListN.{length, set, length-set}
-use lib.Seq.{getD-set-same, getD-set-other}
+use lib.Seq.{sets, getD-set-same, getD-set-other}
 use Rattle.model.specs.Tables.{word}
 use Rattle.model.specs.Stores.{Store, _↤_, stores}
 
@@ -28,3 +30,8 @@ stored-here l a v ws h f = stored-same (set l a v) ws a f ∙ getD-set-same l a 
 -- the word stored after the stores `front` and before `ws`
 pub stored-at : (l : List ℕ) (front : List Store) (a v : ℕ) (ws : List Store) → a < length l → Fresh a ws → word (stores (set (stores l front) a v) ws) a ≡ v
 stored-at l front a v ws h f = stored-here (stores l front) a v ws (rw length-stores h) f
+
+-- a second run of words after a first
+pub sets-append : (l : List ℕ) (i : ℕ) (xs ys : List ℕ) → sets l i (xs ++ ys) ≡ sets (sets l i xs) (i + length xs) ys
+sets-append l i [] ys = ap (λ (k : ℕ). sets l k ys) (sym (add-zero i))
+sets-append l i (x ∷ xs) ys = sets-append (set l i x) (suc i) xs ys ∙ ap (λ (k : ℕ). sets (sets (set l i x) (suc i) xs) k ys) (omega arith)

@@ -13,33 +13,21 @@ use lib.Bits.{and-zero-r, bitAnd, bitOr, and-step, and-shr}
 use borrow.Author.Tests.{leb-true, le-leb, eq-eqb, ne-eqb}
 use Rattle.model.specs.Signature.{bitAt, Covers, coversb}
 use Rattle.model.proofs.Bits.{bit-below, bit-cases}
+use Rattle.model.proofs.Asking.{true-false, both}
 use Rattle.signature.proofs.Bits.{bit-last, bit-half, bit-zero, bit-or, half-below}
 
-true-false : {A : Type 0} {t : Bool} → t ≡ true → t ≡ false → A
-true-false p q =
-    let z : _≡_ {A = ℕ} 0 1 = cc in
-    absurd (omega arith)
-
-both-left : (s t : Bool) → (s && t) ≡ true → s ≡ true
-both-left true t e = refl
-both-left false t e = e
-
-both-right : (s t : Bool) → (s && t) ≡ true → t ≡ true
-both-right true t e = e
-both-right false t e = true-false e refl
-
-both : (s t : Bool) → s ≡ true → t ≡ true → (s && t) ≡ true
-both s t p q = ap₂ _&&_ p q
+yes-yes : (s t : Bool) → s ≡ true → t ≡ true → (s && t) ≡ true
+yes-yes s t p q = ap₂ _&&_ p q
 
 -- the test is the AND that the code makes
 pub covers-and : (F s q : ℕ) → q < 2 ^ F → coversb F s q ≡ true → bitAnd s q ≡ q
 unfolding coversb
 covers-and zero s q h e = ap (bitAnd s) (lt-one h) ∙ and-zero-r s ∙ sym (lt-one h)
 covers-and (suc F) s q h e =
-    let l : q % 2 ≤ s % 2 = leb-true (q % 2) (s % 2) (both-left (leb (q % 2) (s % 2)) (coversb F (s / 2) (q / 2)) e) in
+    let l : q % 2 ≤ s % 2 = leb-true (q % 2) (s % 2) (both {t = leb (q % 2) (s % 2)} e .0) in
     and-step s q
     ∙ ap₂ (λ (x y : ℕ). x * 2 + y)
-    (covers-and F (s / 2) (q / 2) (half-below F q h) (both-right (leb (q % 2) (s % 2)) (coversb F (s / 2) (q / 2)) e))
+    (covers-and F (s / 2) (q / 2) (half-below F q h) (both {t = leb (q % 2) (s % 2)} e .1))
     (min-eq-right l)
     ∙ div-add-mod' q 2
 
@@ -48,7 +36,7 @@ unfolding coversb
 and-covers zero s q e = refl
 and-covers (suc F) s q e =
     let low : q % 2 ≡ min (s % 2) (q % 2) = ap (λ (n : ℕ). n % 2) (sym e ∙ and-step s q) ∙ digits-mod (bitAnd (s / 2) (q / 2)) (omega arith) in
-    both (leb (q % 2) (s % 2)) (coversb F (s / 2) (q / 2)) (le-leb (q % 2) (s % 2) (omega arith))
+    yes-yes (leb (q % 2) (s % 2)) (coversb F (s / 2) (q / 2)) (le-leb (q % 2) (s % 2) (omega arith))
     (and-covers F (s / 2) (q / 2) (sym (and-shr s q 1) ∙ ap (λ (n : ℕ). n / 2) e))
 
 pub and-test : (F s q : ℕ) → q < 2 ^ F → eqb (bitAnd s q) q ≡ coversb F s q
@@ -63,8 +51,8 @@ pub coversb-sound : (F s q : ℕ) → coversb F s q ≡ true → Covers F s q
 unfolding coversb
 coversb-sound zero s q e j p h b = absurd (omega arith)
 coversb-sound (suc F) s q e j p h b =
-    let l : q % 2 ≤ s % 2 = leb-true (q % 2) (s % 2) (both-left (leb (q % 2) (s % 2)) (coversb F (s / 2) (q / 2)) e) in
-    go l (coversb-sound F (s / 2) (q / 2) (both-right (leb (q % 2) (s % 2)) (coversb F (s / 2) (q / 2)) e) j p) (le-suc-iff .0 h)
+    let l : q % 2 ≤ s % 2 = leb-true (q % 2) (s % 2) (both {t = leb (q % 2) (s % 2)} e .0) in
+    go l (coversb-sound F (s / 2) (q / 2) (both {t = leb (q % 2) (s % 2)} e .1) j p) (le-suc-iff .0 h)
   where
     go : q % 2 ≤ s % 2 → (j ≤ F → bitAt F (q / 2) j ≡ 1 → bitAt F (s / 2) j ≡ 1) → (j ≤ F) ⊎ (j ≡ suc F) → bitAt (suc F) s j ≡ 1
     go l rest (inl k) = bit-half F s j k ∙ rest k (sym (bit-half F q j k) ∙ b)
@@ -77,7 +65,7 @@ pub coversb-complete : (F s q : ℕ) → Covers F s q → coversb F s q ≡ true
 unfolding coversb
 coversb-complete zero s q c = refl
 coversb-complete (suc F) s q c =
-    both (leb (q % 2) (s % 2)) (coversb F (s / 2) (q / 2)) (le-leb (q % 2) (s % 2) (low (bit-cases (suc F) q (suc F))))
+    yes-yes (leb (q % 2) (s % 2)) (coversb F (s / 2) (q / 2)) (le-leb (q % 2) (s % 2) (low (bit-cases (suc F) q (suc F))))
     (coversb-complete F (s / 2) (q / 2) (λ j p h b. sym (bit-half F s j h) ∙ c j p (omega arith) (bit-half F q j h ∙ b)))
   where
     low : (bitAt (suc F) q (suc F) ≡ 0) ⊎ (bitAt (suc F) q (suc F) ≡ 1) → q % 2 ≤ s % 2

@@ -14,17 +14,7 @@ use lib.Seq.{ext-getD, getD-set-same, getD-set-other}
 use borrow.Author.Tests.{eq-eqb, ne-eqb}
 use Rattle.model.specs.Tables.{widthOf, filedOf, signatureOf}
 use Rattle.model.specs.Ledger.{Entry, unfiled, pair, entryOf, hasPair, entryIn, entriesFrom, ledgerOf}
-
--- an entry is a pair or not, and a pair has one signature
-abbrev signatureIn : Entry → ℕ
-signatureIn unfiled = 0
-signatureIn (pair s) = suc s
-
-pub pair-not : (s : ℕ) → unfiled ≡ pair s → ⊥
-pair-not s e = omega (arith, ap signatureIn e)
-
-pub pair-one : (s u : ℕ) → pair s ≡ pair u → s ≡ u
-pair-one s u e = omega (arith, ap signatureIn e)
+use Rattle.model.proofs.Matching.{pair-not, pair-one}
 
 module _ (sigs links : List ℕ) where
   -- the entry of a block

@@ -1,33 +1,33 @@
 -- Question 4's test is the fact that the tables fit, both ways: each part of the test is a comparison, and its answer is the fact.
 -- Assumes nothing.
-use Prim.Native.Nat.{ℕ, _≤_}
+use Prim.Native.Nat.{ℕ, _≤_, _<_}
 use native.Mathlib.Omega.{arith}
 use mathlib.Core.Path.{_≡_, refl, sym, _∙_}
 use mathlib.Core.Logic.{_↔_}
-use mathlib.Core.Bool.{Bool, true, false, _&&_}
+use mathlib.Core.Bool.{Bool, true, _&&_}
 use mathlib.Core.List.{List}
-use lib.Dec.{eqb, leb}
+use lib.Dec.{eqb}
 use lib.ListN.{length}
-use borrow.Author.Tests.{eq-eqb, le-leb, eqb-true, leb-true}
+use borrow.Author.Tests.{eq-eqb, le-leb, eqb-true}
 use Rattle.model.specs.Limits.{widest, mostBlocks}
-use Rattle.model.specs.Tables.{linksOf, widthOf, toldBlocks}
+use Rattle.model.specs.Tables.{linksOf, widthOf, toldBlocks, filedAt}
 use Rattle.model.specs.Sound.{FitsAt}
 use Rattle.model.specs.Questions.{blocksFit, widthFits, asksTables, tablesFit}
-
--- two tests at once
-pub both : {t u : Bool} → (t && u) ≡ true → (t ≡ true) × (u ≡ true)
-both {t = true} e = (refl, e)
-both {t = false} e = absurd (let z : _≡_ {A = ℕ} 0 1 = cc in omega arith)
+use Rattle.model.proofs.Asking.{both, in-range}
 
 -- what a yes to the lengths says
 pub lengths-of : (B n : ℕ) → (blocksFit B && eqb n (linksOf B)) ≡ true → (1 ≤ B) × (B ≤ mostBlocks) × (n ≡ linksOf B)
 lengths-of B n e =
     let q = both {t = blocksFit B} e in
-    let r = both {t = leb 1 B} (q .0) in
-    (leb-true 1 B (r .0), leb-true B mostBlocks (r .1), eqb-true n (linksOf B) (q .1))
+    let r = in-range B mostBlocks (q .0) in
+    (r .0, r .1, eqb-true n (linksOf B) (q .1))
 
 pub width-of : (F : ℕ) → widthFits F ≡ true → (1 ≤ F) × (F ≤ widest)
-width-of F e = let q = both {t = leb 1 F} e in (leb-true 1 F (q .0), leb-true F widest (q .1))
+width-of F e = in-range F widest e
+
+-- a block's row stands inside the links
+pub row-inside : (B b n : ℕ) → 1 ≤ b → b ≤ B → n ≡ linksOf B → filedAt b < n
+row-inside B b n g h e = omega arith
 
 module _ (sigs links : List ℕ) where
   fits-true : tablesFit (asksTables sigs links) ≡ true → FitsAt (length sigs) (widthOf links) sigs links

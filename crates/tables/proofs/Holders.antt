@@ -10,7 +10,8 @@ use lib.ListN.{length, getD}
 use Rattle.model.specs.Tables.{filedOf, signatureOf}
 use Rattle.model.specs.Ledger.{Entry, unfiled, pair, pairSignatures, isStored, entryIn, entriesFrom, ledgerOf}
 use Rattle.model.proofs.Members.{has-in, in-has}
-use Rattle.tables.proofs.Entries.{pair-not, pair-one, entry-is, entry-pair, entries-length, entries-at, entries-of}
+use Rattle.model.proofs.Matching.{pair-not, pair-one}
+use Rattle.tables.proofs.Entries.{entry-is, entry-pair, entries-length, entries-at, entries-of}
 
 -- a signature of the pairs is some entry's, and the other way
 pub pair-at : (s : ℕ) (es : List Entry) → List·Memᴰ s (pairSignatures es) → (i : ℕ) × (i < length es) × (getD es i unfiled ≡ pair s)

@@ -4,36 +4,23 @@ use Prim.Native.Nat.{ℕ, _-_, _≤_, _<_}
 use native.Mathlib.Omega.{arith}
 use mathlib.Core.Path.{_≡_, refl, sym, _∙_, ap}
 use mathlib.Core.Logic.{_⊎_, inl, inr, _≢_}
-use mathlib.Core.Bool.{true, false, _&&_}
+use mathlib.Core.Bool.{true, false}
 use mathlib.Core.List.{List, [], _∷_, List·Memᴰ, List·Memᴰ·cases-cons}
-use lib.Dec.{leb}
 use lib.ListN.{length}
-use borrow.Author.Tests.{eq-eqb, ne-eqb, le-leb, lt-leb, leb-true}
-use Rattle.model.specs.Tables.{word, linksOf, widthOf, rootOf, countOf, nextAt, filedAt, nextOf, sideOf, signatureOf}
+use borrow.Author.Tests.{eq-eqb, ne-eqb, le-leb, lt-leb}
+use Rattle.model.specs.Tables.{word, widthOf, rootOf, countOf, nextAt, nextOf, sideOf, signatureOf}
 use Rattle.model.specs.Sound.{Sound}
 use Rattle.model.specs.Stores.{_↤_}
 use Rattle.model.specs.File.{spotOf}
 use Rattle.model.specs.Withdraw.{parentOf, withdrawalStores, unlinkStores, withdrawStores}
 use Rattle.tables.specs.Walk.{EdgeOf, Ends}
 use Rattle.tables.proofs.Counts.{filed-one}
-use Rattle.tables.proofs.Fits.{both}
 use Rattle.tables.proofs.Walks.{sound-fits}
 use Rattle.withdraw.specs.Asking.{Passed}
 use Rattle.withdraw.specs.Plan.{Plans, PlansChain, PlansRaise, PlansHead, storesOf}
 use Rattle.withdraw.proofs.Found.{Found, found-chain}
 use Rattle.withdraw.specs.declared.plan.Plan.{Plan}
 use Rattle.withdraw.specs.declared.plan.Plan.the-variants.{Relink, Raise}
-
--- question 5's test as a fact, and back
-pub block-in : (B b : ℕ) → (leb 1 b && leb b B) ≡ true → (1 ≤ b) × (b ≤ B)
-block-in B b e = let q = both {t = leb 1 b} e in (leb-true 1 b (q .0), leb-true b B (q .1))
-
-pub not-block : (B b : ℕ) → (leb 1 b && leb b B) ≡ false → 1 ≤ b → b ≤ B → ⊥
-not-block B b e h k = let z : (true && true) ≡ false = rw (le-leb 1 b h, le-leb b B k) at e in let y : _≡_ {A = ℕ} 0 1 = cc in omega arith
-
--- a block's row stands inside the links
-pub row-inside : (B b n : ℕ) → 1 ≤ b → b ≤ B → n ≡ linksOf B → filedAt b < n
-row-inside B b n g h e = omega arith
 
 -- the block before b leads on past it
 pub unlinks : (B : ℕ) (L : List ℕ) (b c d x : ℕ) → c ≡ d → x ≡ nextOf L b → Plans B L b (Relink (nextAt c) x) (unlinkStores L b d)

@@ -6,7 +6,7 @@ use borrow.Author.Needs.{needs}
 use borrow.Author.Tests.{not-true, not-false}
 use lib.ListN.{length}
 use Rattle.model.specs.Tables.{word}
-use Rattle.file.proofs.Asked.{block-of}
+use Rattle.model.proofs.Asking.{in-range}
 use Rattle.file.proofs.Planned.{plan-full, plan-first, plan-lost, plan-no-leaf, plan-join, plan-split}
 use Rattle.file.proofs.plan.plan_filing.Statement.{statement}
 use Rattle.file.proofs.plan.plan_filing.Tie as tie
@@ -77,7 +77,7 @@ sub-other c =
     let at-walk = c .before .before .before .before .before .walk in
     let at-is-block = c .before .before .is-block in
     let at-if4 = c .before .if4 in
-    let r = block-of (word (start .args .links .now) (at-walk .result .link)) (length (start .args .signatures .now)) (sym (at-is-block .ensures) ∙ not-false _ (at-if4 .left)) in
+    let r = in-range (word (start .args .links .now) (at-walk .result .link)) (length (start .args .signatures .now)) (sym (at-is-block .ensures) ∙ not-false _ (at-if4 .left)) in
     omega (arith, c .wide2 .ensures, r)
 
 mul-other : tie.Need-mul-other
@@ -86,7 +86,7 @@ mul-other c =
     let at-walk = c .before .before .before .before .before .walk in
     let at-is-block = c .before .before .is-block in
     let at-if4 = c .before .if4 in
-    let r = block-of (word (start .args .links .now) (at-walk .result .link)) (length (start .args .signatures .now)) (sym (at-is-block .ensures) ∙ not-false _ (at-if4 .left)) in
+    let r = in-range (word (start .args .links .now) (at-walk .result .link)) (length (start .args .signatures .now)) (sym (at-is-block .ensures) ∙ not-false _ (at-if4 .left)) in
     omega (arith, c .wide2 .ensures, r, start .pre .0 .blocks-to)
 
 shared-slice-read-other : tie.Need-shared-slice-read-other
@@ -96,7 +96,7 @@ shared-slice-read-other c =
     let at-is-block = c .before .before .before .is-block in
     let at-if4 = c .before .before .if4 in
     let at-wide2 = c .before .wide2 in
-    let r = block-of (word (start .args .links .now) (at-walk .result .link)) (length (start .args .signatures .now)) (sym (at-is-block .ensures) ∙ not-false _ (at-if4 .left)) in
+    let r = in-range (word (start .args .links .now) (at-walk .result .link)) (length (start .args .signatures .now)) (sym (at-is-block .ensures) ∙ not-false _ (at-if4 .left)) in
     omega (arith, at-wide2 .ensures, r)
 
 returns-5 : tie.Need-returns-5
@@ -110,7 +110,7 @@ returns-5 c =
     let at-if4 = c .before .before .before .if4 in
     let at-wide2 = c .before .before .wide2 in
     let p = start .pre .1 in
-    let r = block-of (word (start .args .links .now) (at-walk .result .link)) (length (start .args .signatures .now)) (sym (at-is-block .ensures) ∙ not-false _ (at-if4 .left)) in
+    let r = in-range (word (start .args .links .now) (at-walk .result .link)) (length (start .args .signatures .now)) (sym (at-is-block .ensures) ∙ not-false _ (at-if4 .left)) in
     (plan-join _ _ _ _ (p .0) (p .1) (p .2) (at-if2 .left) _ _ (at-walk .ensures .0) (at-if3 .left) (r .0) _ (rw (at-wide2 .ensures)) (c .if5 .taken), (omega (arith, at-wide .ensures), r .0, r .1))
 
 plan-split-requires : tie.Need-plan-split-requires
@@ -132,7 +132,7 @@ returns-6 c =
     let at-wide2 = c .before .before .before .wide2 in
     let at-if5 = c .before .if5 in
     let p = start .pre .1 in
-    let r = block-of (word (start .args .links .now) (at-walk .result .link)) (length (start .args .signatures .now)) (sym (at-is-block .ensures) ∙ not-false _ (at-if4 .left)) in
+    let r = in-range (word (start .args .links .now) (at-walk .result .link)) (length (start .args .signatures .now)) (sym (at-is-block .ensures) ∙ not-false _ (at-if4 .left)) in
     (plan-split _ _ _ _ (p .0) (p .1) (p .2) (at-if2 .left) _ _ (at-walk .ensures .0) (at-if3 .left) (r .0) _ (rw (at-wide2 .ensures)) (at-if5 .left) (c .plan-split .result) (c .plan-split .ensures .0), c .plan-split .ensures .1)
 
 pub plan-filing-spec : {M : Type 1} → statement M

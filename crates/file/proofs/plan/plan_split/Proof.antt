@@ -4,7 +4,8 @@ use native.Mathlib.Omega.{arith}
 use mathlib.Core.Path.{sym, _∙_}
 use borrow.Author.Needs.{needs}
 use borrow.Author.Tests.{not-true, not-false, ltb-true}
-use Rattle.file.proofs.Asked.{block-of, not-block, not-below}
+use Rattle.file.proofs.Asked.{not-below}
+use Rattle.model.proofs.Asking.{in-range, not-in-range}
 use Rattle.file.proofs.Planned.{a-split, difference-in}
 use Rattle.file.proofs.plan.plan_split.Statement.{statement}
 use Rattle.file.proofs.plan.plan_split.Tie as tie
@@ -19,7 +20,7 @@ is-block-requires : tie.Need-is-block-requires
 is-block-requires c κs = search needs
 
 returns : tie.Need-returns
-returns c = ((λ x y z. not-block _ _ (sym (c .before .is-block .ensures) ∙ not-true _ (c .if1 .taken)) x (omega arith)), tt)
+returns c = ((λ x y z. not-in-range _ _ (sym (c .before .is-block .ensures) ∙ not-true _ (c .if1 .taken)) x (omega arith)), tt)
 
 fits-requires : tie.Need-fits-requires
 fits-requires c κs = search needs
@@ -47,7 +48,7 @@ returns-3 c =
     let at-is-block = c .before .before .before .before .before .is-block in
     let at-if1 = c .before .before .before .before .if1 in
     let at-first-difference = c .before .first-difference in
-    let r = block-of _ _ (sym (at-is-block .ensures) ∙ not-false _ (at-if1 .left)) in
+    let r = in-range _ _ (sym (at-is-block .ensures) ∙ not-false _ (at-if1 .left)) in
     let q = start .pre .1 in
     (a-split (start .args .blocks) (start .args .width) (start .args .links .now) (start .args .signature) (start .args .link) (start .args .leaf) (start .args .other) _ _ (at-first-difference .ensures) (c .bit .ensures .0), (q .3, q .2, r .0, omega arith, c .bit .ensures .1))
 

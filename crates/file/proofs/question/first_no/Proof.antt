@@ -5,7 +5,8 @@ use mathlib.Core.Path.{sym, _∙_}
 use lib.ListN.{length}
 use borrow.Author.Needs.{needs}
 use borrow.Author.Tests.{not-true, not-false}
-use Rattle.file.proofs.Asked.{block-of, refuses-4, refuses-5, refuses-6, refuses-7, refuses-none}
+use Rattle.model.proofs.Asking.{in-range}
+use Rattle.file.proofs.Asked.{refuses-4, refuses-5, refuses-6, refuses-7, refuses-none}
 use Rattle.file.proofs.question.first_no.Statement.{statement}
 use Rattle.file.proofs.question.first_no.Tie as tie
 
@@ -60,7 +61,7 @@ filed-of-requires c κs =
     let at-is-block = c .before .before .before .before .is-block in
     let at-if2 = c .before .before .before .if2 in
     let f = at-tables-fit .ensures .1 (not-false _ (at-if1 .left)) in
-    let r = block-of (start .args .block) (length (start .args .signatures .now)) (sym (at-is-block .ensures) ∙ not-false _ (at-if2 .left)) in
+    let r = in-range (start .args .block) (length (start .args .signatures .now)) (sym (at-is-block .ensures) ∙ not-false _ (at-if2 .left)) in
     omega (arith, f .links-long, r)
 
 returns-4 : tie.Need-returns-4

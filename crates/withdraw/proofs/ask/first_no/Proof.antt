@@ -2,7 +2,8 @@
 -- Assumes nothing.
 use mathlib.Core.Path.{sym, _∙_}
 use borrow.Author.Tests.{eq-eqb, ne-eqb, not-true, not-false}
-use Rattle.withdraw.proofs.Plans.{block-in, row-inside}
+use Rattle.model.proofs.Asking.{in-range}
+use Rattle.tables.proofs.Fits.{row-inside}
 use Rattle.model.specs.Questions.{ask, withdrawRefusal}
 use borrow.Author.Needs.{needs}
 use native.Mathlib.Omega.{arith}
@@ -32,7 +33,7 @@ filed-of-requires : tie.Need-filed-of-requires
 filed-of-requires c κs =
     let t = not-false _ (c .before .before .if1 .left) in
     let k = sym (c .before .is-block .ensures) ∙ not-false _ (c .if2 .left) in
-    let r = block-in _ _ k in
+    let r = in-range _ _ k in
     row-inside _ _ _ (r .0) (r .1) (c .before .before .before .tables-fit .ensures .1 t .links-long)
 
 returns-3 : tie.Need-returns-3
@@ -49,7 +50,7 @@ returns-4 c =
     let t = not-false _ (c .before .before .before .before .if1 .left) in
     let f = sym (c .before .before .before .before .before .tables-fit .ensures .0) ∙ not-false _ (c .before .before .before .before .if1 .left) in
     let k = sym (c .before .before .before .is-block .ensures) ∙ not-false _ (c .before .before .if2 .left) in
-    let r = block-in _ _ k in
+    let r = in-range _ _ k in
     let e = c .before .filed-of .ensures in
     let n = c .if3 .left in
     (rw (f, withdrawRefusal, ask, k, ne-eqb _ 0 (λ z. n (e ∙ z))), λ y. record { fits = c .before .before .before .before .before .tables-fit .ensures .1 t; from = r .0; to = r .1; filed = λ z. n (e ∙ z) })

@@ -8,7 +8,7 @@ use borrow.Author.Tests.{not-true, not-false}
 use Rattle.model.specs.Sound.{Chain}
 use Rattle.model.specs.Withdraw.{blockBefore}
 use Rattle.withdraw.proofs.Chains.{Sought, seek, some-left, next-is-block, found-before, pass}
-use Rattle.withdraw.proofs.Plans.{block-in, not-block}
+use Rattle.model.proofs.Asking.{in-range, not-in-range}
 use borrow.Author.Needs.{needs}
 use native.Mathlib.Omega.{arith}
 use Rattle.withdraw.proofs.plan.find_before.Statement.{statement}
@@ -39,7 +39,7 @@ is-block-requires : tie.Need-is-block-requires Inv-loop μ-loop
 is-block-requires c κs = search needs
 
 returns-2 : tie.Need-returns-2 Inv-loop μ-loop
-returns-2 c = ((λ cs q m. let k = next-is-block (c .before .before .before .next-of .ensures) (c .before .before .before .before .before .loop .inv .2 cs q m) in absurd (not-block _ _ (sym (c .before .is-block .ensures) ∙ not-true _ (c .if2 .taken)) (k .0) (k .1))), omega arith)
+returns-2 c = ((λ cs q m. let k = next-is-block (c .before .before .before .next-of .ensures) (c .before .before .before .before .before .loop .inv .2 cs q m) in absurd (not-in-range _ _ (sym (c .before .is-block .ensures) ∙ not-true _ (c .if2 .taken)) (k .0) (k .1))), omega arith)
 
 sub-left : tie.Need-sub-left Inv-loop μ-loop
 sub-left c = search needs
@@ -49,7 +49,7 @@ loop-less c = search needs
 
 loop-again : tie.Need-loop-again Inv-loop μ-loop
 loop-again c =
-    let r = block-in _ _ (sym (c .before .is-block .ensures) ∙ not-false _ (c .if2 .left)) in
+    let r = in-range _ _ (sym (c .before .is-block .ensures) ∙ not-false _ (c .if2 .left)) in
     (r .0, r .1, λ cs q m. pass (c .before .before .before .next-of .ensures) _ (c .before .before .before .before .before .loop .inv .2 cs q m) (c .before .before .if1 .left))
 
 returns-3 : tie.Need-returns-3 Inv-loop μ-loop

@@ -2,7 +2,8 @@
 -- Assumes nothing.
 use mathlib.Core.Path.{sym, _∙_}
 use borrow.Author.Tests.{not-true, not-false}
-use Rattle.withdraw.proofs.Plans.{block-in, not-block, unlinks}
+use Rattle.withdraw.proofs.Plans.{unlinks}
+use Rattle.model.proofs.Asking.{in-range, not-in-range}
 use borrow.Author.Needs.{needs}
 use native.Mathlib.Omega.{arith}
 use Rattle.withdraw.proofs.plan.plan_chain.Statement.{statement}
@@ -12,11 +13,11 @@ is-block-requires : tie.Need-is-block-requires
 is-block-requires c κs = search needs
 
 returns : tie.Need-returns
-returns c = ((λ cs h k q m. absurd (not-block _ _ (sym (c .before .is-block .ensures) ∙ not-true _ (c .if1 .taken)) h k)), tt)
+returns c = ((λ cs h k q m. not-in-range _ _ (sym (c .before .is-block .ensures) ∙ not-true _ (c .if1 .taken)) h k), tt)
 
 find-before-requires : tie.Need-find-before-requires
 find-before-requires c κs =
-    let r = block-in _ _ (sym (c .before .is-block .ensures) ∙ not-false _ (c .if1 .left)) in
+    let r = in-range _ _ (sym (c .before .is-block .ensures) ∙ not-false _ (c .if1 .left)) in
     (omega arith, omega arith, r .0, r .1)
 
 returns-2 : tie.Need-returns-2
