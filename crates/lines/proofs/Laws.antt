@@ -1,7 +1,7 @@
 -- Decimal digits, and bytes put one after the other.
 -- Assumes nothing.
 use Prim.Native.Nat.{ℕ, zero, suc, _+_, _/_, _%_, _^_, _≤_, _<_}
-use native.Mathlib.Nat.{add-zero, pow-suc}
+use native.Mathlib.Nat.{pow-suc}
 use native.Mathlib.Omega.{arith}
 use mathlib.Core.Path.{_≡_, refl, sym, _∙_, ap, subst}
 use mathlib.Core.Bool.{Bool, true, false}
@@ -11,12 +11,8 @@ use lib.ListN.{length, length-append, set, length-set, getD, take}
 use lib.Seq.{sets, take-suc}
 use native.Mathlib.Numerals.{add-one}
 use borrow.Author.Tests.{lt-ltb, le-ltb, ltb-false}
+use Rattle.model.proofs.Stores.{sets-append}
 use Rattle.lines.specs.Text.{decimalWithin, decimal, spaced, lineText, Puts}
-
--- a second run of bytes after a first
-pub sets-append : (l : List ℕ) (i : ℕ) (xs ys : List ℕ) → sets l i (xs ++ ys) ≡ sets (sets l i xs) (i + length xs) ys
-sets-append l i [] ys = ap (λ (k : ℕ). sets l k ys) (sym (add-zero i))
-sets-append l i (x ∷ xs) ys = sets-append (set l i x) (suc i) xs ys ∙ ap (λ (k : ℕ). sets (sets (set l i x) (suc i) xs) k ys) (omega arith)
 
 -- more room for digits does not change them
 enough : (k j n : ℕ) → n < k → n < j → decimalWithin k n ≡ decimalWithin j n

@@ -2,37 +2,25 @@
 -- of blocks, and a pair exactly where a filed word is other than 0.
 -- Assumes nothing.
 use Prim.Native.Nat.{ℕ, _≤_}
-use native.Mathlib.Omega.{arith}
 use mathlib.Core.Path.{_≡_, refl, sym, _∙_, ap}
 use mathlib.Core.Logic.{_≢_}
-use mathlib.Core.Bool.{Bool, true, false, _&&_}
+use mathlib.Core.Bool.{Bool, true, false}
 use mathlib.Core.List.{List}
-use lib.Dec.{eqb, leb}
+use lib.Dec.{eqb}
 use lib.ListN.{length}
-use borrow.Author.Tests.{leb-true, eqb-false, not-true, le-leb, eq-eqb}
+use borrow.Author.Tests.{eqb-false, not-true, le-leb, eq-eqb}
 use Rattle.model.specs.Limits.{widest, mostBlocks}
 use Rattle.model.specs.Tables.{linksOf, widthOf, toldBlocks, filedOf}
 use Rattle.model.specs.Sound.{Sound}
-use Rattle.model.specs.Questions.{Asked, widthFits, asksTables, ask, isBlock, clearRefusal, fileRefusal, withdrawRefusal, rebuildRefusal, searchRefusal, auditRefusal, Call, clear, file, withdraw, rebuild, search, audit, Work, refusal}
+use Rattle.model.specs.Questions.{Asked, asksTables, ask, isBlock, clearRefusal, fileRefusal, withdrawRefusal, rebuildRefusal, searchRefusal, auditRefusal, Call, clear, file, withdraw, rebuild, search, audit, Work, refusal}
 use Rattle.model.specs.Ledger.{hasPair, ledgerOf, asksLedger}
+use Rattle.model.proofs.Asking.{both, in-range, ask-zero}
 use Rattle.tables.proofs.Entries.{entries-length, entries-of, entry-filed}
-
-pub ask-zero : (n : ℕ) (t : Bool) (k : ℕ) → n ≢ 0 → ask n t k ≡ 0 → (t ≡ true) × (k ≡ 0)
-unfolding ask
-ask-zero n true k h e = (refl, e)
-ask-zero n false k h e = absurd (h e)
 
 ask-same : (n : ℕ) (t : Bool) (k l : ℕ) → (t ≡ true → k ≡ l) → ask n t k ≡ ask n t l
 unfolding ask
 ask-same n true k l f = f refl
 ask-same n false k l f = refl
-
-pub both : (a b : Bool) → (a && b) ≡ true → (a ≡ true) × (b ≡ true)
-both true b e = (refl, e)
-both false b e = let z : _≡_ {A = ℕ} 0 1 = cc in absurd (omega arith)
-
-pub in-range : (b B : ℕ) → (leb 1 b && leb b B) ≡ true → (1 ≤ b) × (b ≤ B)
-in-range b B e = let r = both (leb 1 b) (leb b B) e in (leb-true 1 b (r .0), leb-true b B (r .1))
 
 -- two that say the same are answered the same
 module _ (A A′ : Asked) (l : A .lengths ≡ A′ .lengths) (w : A .words ≡ A′ .words) (f : A .width ≡ A′ .width) (n : A .blocks ≡ A′ .blocks)
@@ -54,15 +42,15 @@ module _ (sigs links : List ℕ) where
   pub clear-fits : (F : ℕ) → clearRefusal (asksTables sigs links) F ≡ 0 → (1 ≤ F) × (F ≤ widest)
   unfolding clearRefusal
   clear-fits F e =
-      let r = ask-zero 4 _ 0 (omega arith) e in
-      in-range F widest (both (asksTables sigs links .lengths) (widthFits F) (r .0) .1)
+      let r = ask-zero 3 _ 0 e in
+      in-range F widest (both {t = asksTables sigs links .lengths} (r .0) .1)
 
   pub withdraw-fits : (b : ℕ) → withdrawRefusal (asksTables sigs links) b ≡ 0 → (1 ≤ b) × (b ≤ length sigs) × (filedOf links b ≢ 0)
   unfolding withdrawRefusal
   withdraw-fits b e =
-      let r = ask-zero 4 _ _ (omega arith) e in
-      let x = ask-zero 5 _ _ (omega arith) (r .1) in
-      let z = ask-zero 8 _ _ (omega arith) (x .1) in
+      let r = ask-zero 3 _ _ e in
+      let x = ask-zero 4 _ _ (r .1) in
+      let z = ask-zero 7 _ _ (x .1) in
       let g = in-range b (length sigs) (x .0) in
       (g .0, g .1, eqb-false (filedOf links b) 0 (not-true (eqb (filedOf links b) 0) (z .0)))
 

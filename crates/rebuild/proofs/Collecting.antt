@@ -12,8 +12,8 @@ use borrow.Author.Tests.{ne-eqb, le-leb, lt-leb}
 use Rattle.model.specs.Tables.{widthOf, rootOf, leftOf, rightOf}
 use Rattle.model.specs.Sound.{Shape, tip, fork, Holds, Rooted, none, some, HoldsRoot, PlacedRoot, Sound}
 use Rattle.model.specs.Rebuild.{headsFrom}
+use Rattle.model.proofs.Stores.{sets-append}
 use Rattle.tables.proofs.Trees.{depth, depth-root}
-use Rattle.split.proofs.Nodes.{sets-append}
 use Rattle.rebuild.specs.Walkable.{Walkable}
 
 -- a leaf

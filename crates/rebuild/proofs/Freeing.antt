@@ -8,7 +8,8 @@ use lib.Seq.{sets}
 use Rattle.model.specs.Tables.{positionAt, leftAt, rightAt}
 use Rattle.model.specs.Stores.{_↤_, stores}
 use Rattle.model.specs.Clear.{freeFrom, freeNodes}
-use Rattle.split.proofs.Nodes.{sets-append, node-stores}
+use Rattle.model.proofs.Stores.{sets-append}
+use Rattle.split.proofs.Nodes.{node-stores}
 use Rattle.tables.proofs.Spelled.{free-step}
 
 pub free-turn : (B i x : ℕ) (links after whole : List ℕ) → i < B → x ≡ freeFrom B (i + 1)

@@ -16,14 +16,13 @@ use Rattle.model.specs.Tree.{Edge, edge, Agrees}
 use Rattle.model.specs.Tables.{filedOf, leftOf, rightOf, signatureOf}
 use Rattle.model.specs.Sound.{Shape, tip, fork, Chain, Holds, blocks, Placed}
 use Rattle.model.specs.Rebuild.{headsFrom}
-use Rattle.model.proofs.Members.{total}
+use Rattle.model.proofs.Members.{total, total-append}
 use Rattle.model.proofs.Pigeon.{downFrom, downFrom-length, downFrom-has, distinct-fits}
 use Rattle.tables.proofs.Shapes.{blocks-placed, blocks-range}
 use Rattle.tables.proofs.Trees.{depth}
 use Rattle.tables.proofs.Sides.{pick}
 use Rattle.tables.proofs.Counts.{heads, heads-blocks, heads-distinct}
 use Rattle.split.specs.Split.{hits, Apart}
-use Rattle.split.proofs.Sums.{total-append}
 
 -- block b heads the chain cs: filed blocks of its signature
 pub record Heads (B : ℕ) (sigs links : List ℕ) (b : ℕ) (cs : List ℕ) : Type 0 where

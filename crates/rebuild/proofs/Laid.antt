@@ -10,8 +10,9 @@ use Rattle.model.specs.Tables.{word, linksOf, positionAt, widthOf, toldBlocks, 
 use Rattle.model.specs.Sound.{FitsAt}
 use Rattle.model.specs.Clear.{freeFrom, freeNodes}
 use Rattle.model.specs.Rebuild.{groupReference, groupNodes, groupLinks}
+use Rattle.model.proofs.Stores.{sets-append}
 use Rattle.split.specs.Split.{Apart, Below}
-use Rattle.split.proofs.Nodes.{sets-append, nodes-length}
+use Rattle.split.proofs.Nodes.{nodes-length}
 use Rattle.tables.proofs.Spelled.{Spells, spells-end, free-length}
 
 -- the first words once root and first free node are stored

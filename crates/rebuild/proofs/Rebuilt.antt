@@ -1,7 +1,7 @@
 -- Rebuild keeps sound tables sound, and its tree is made anew from the stored signatures. The heads of the old tree are a group of
 -- distinct signatures; the links laid of it spell the shape of its splits, and rows, count and signatures stay.
 -- Assumes nothing.
-use Prim.Native.Nat.{ℕ, zero, suc, _+_, _-_, _^_, _≤_, _<_, max}
+use Prim.Native.Nat.{ℕ, zero, suc, _-_, _^_, _≤_, _<_, max}
 use native.Mathlib.Decide.{decLt}
 use native.Mathlib.Omega.{arith}
 use mathlib.Core.Path.{_≡_, refl, sym, _∙_, subst}
@@ -16,7 +16,7 @@ use Rattle.model.specs.Tables.{positionAt, nextAt, filedAt, widthOf, rootOf, fr
 use Rattle.model.specs.Sound.{Rooted, none, some, HoldsRoot, PlacedRoot, nodesIn, blocksIn, filedUpTo, FitsAt, SoundAt, Sound}
 use Rattle.model.specs.Clear.{freeNodes}
 use Rattle.model.specs.Rebuild.{headsFrom, headsOf, groupNodes, groupLinks}
-use Rattle.model.proofs.Keep.{upFrom-has}
+use Rattle.model.proofs.Keep.{upFrom-has, upFrom-range}
 use Rattle.model.proofs.Members.{Same}
 use Rattle.tables.proofs.Shapes.{chain-same, chain-range}
 use Rattle.tables.proofs.Counts.{heads}
@@ -31,15 +31,6 @@ use Rattle.rebuild.proofs.Tree.{signatures-heads, tree-shape}
 filed-same : (L L′ : List ℕ) (n : ℕ) → ((c : ℕ) → 1 ≤ c → c ≤ n → filedOf L′ c ≡ filedOf L c) → filedUpTo L′ n ≡ filedUpTo L n
 filed-same L L′ zero o = refl
 filed-same L L′ (suc n) o = omega (arith, o (suc n) (omega arith) (omega arith), filed-same L L′ n (λ c h h′. o c h (omega arith)))
-
-upFrom-from : (n i j : ℕ) → List·Memᴰ j (upFrom n i) → (i ≤ j) × (j < i + n)
-unfolding upFrom
-upFrom-from zero i j m = absurd (List·Memᴰ·not-nil m)
-upFrom-from (suc n) i j m = go (List·Memᴰ·cases-cons m) (upFrom-from n (suc i) j)
-  where
-    go : (j ≡ i) ⊎ List·Memᴰ j (upFrom n (suc i)) → (List·Memᴰ j (upFrom n (suc i)) → (suc i ≤ j) × (j < suc i + n)) → (i ≤ j) × (j < i + suc n)
-    go (inl e) f = omega arith
-    go (inr k) f = let q = f k in omega arith
 
 -- a chain whose rows are as they were
 heads-moved : (B : ℕ) (sigs L L′ : List ℕ) → ((c : ℕ) → 1 ≤ c → c ≤ B → (nextOf L′ c ≡ nextOf L c) × (filedOf L′ c ≡ filedOf L c))
@@ -114,7 +105,7 @@ module _ (sigs links : List ℕ) (S : Sound sigs links) where
       narrow = S .narrow;
       free = upFrom (B - from) from;
       free-holds = free-chain B after (B - from) from (freeOf after) (omega arith) (omega (arith, S .fits .blocks-from)) (words .1) (laid-free sigs links g (S .fits) all-below apart few);
-      free-outside = λ i m n. let a = upFrom-from (B - from) from i m in let b = upFrom-from (length g - 1) 1 i (rw numbered at n) in omega arith;
+      free-outside = λ i m n. let a = upFrom-range (B - from) from i m in let b = upFrom-range (length g - 1) 1 i (rw numbered at n) in omega arith;
       free-all = λ i h h′. place i h h′ (decLt i (length g));
     }
       where

@@ -16,11 +16,10 @@ use Rattle.model.specs.Sound.{Shape, tip, fork, Holds, nodes, blocks, Placed}
 use Rattle.model.specs.Rebuild.{groupReference, groupNodes}
 use Rattle.model.proofs.Bits.{bit-cases}
 use Rattle.model.proofs.Best.{best-position}
-use Rattle.model.proofs.Members.{Same}
+use Rattle.model.proofs.Members.{total-append, Same}
+use Rattle.model.proofs.Sides.{side-member, side-has, sides-total}
 use Rattle.tables.proofs.Counts.{heads}
 use Rattle.split.specs.Split.{Apart, Below}
-use Rattle.split.proofs.Sums.{total-append}
-use Rattle.split.proofs.Sides.{side-member, side-has, sides-total}
 use Rattle.split.proofs.Nodes.{half, nodes-step, nodes-length, apart-half, group-induction}
 use Rattle.tables.proofs.Spelled.{Spells, spells-append, node-spelled}
 use Rattle.rebuild.proofs.Heads.{Heads}

@@ -16,9 +16,10 @@ use Rattle.model.specs.Tables.{signatureOf}
 use Rattle.model.proofs.Bits.{bit-below}
 use Rattle.model.proofs.Best.{best-position}
 use Rattle.model.proofs.Members.{total, Same}
+use Rattle.model.proofs.Sides.{sides-total, sides-length}
 use Rattle.signature.proofs.Bits.{bits-equal}
 use Rattle.split.specs.Split.{hits, Apart, Below}
-use Rattle.split.proofs.Sides.{sides-total, sides-length, ones-total, smaller-same}
+use Rattle.split.proofs.Sides.{ones-total}
 
 module _ (F : ℕ) (of : ℕ → ℕ) (xs : List ℕ) where
   -- one position more
@@ -29,15 +30,6 @@ module _ (F : ℕ) (of : ℕ → ℕ) (xs : List ℕ) where
   pub best-no : (best j : ℕ) (ps : List ℕ) → smaller F of j xs ≤ smaller F of best xs → bestOf F of xs best (j ∷ ps) ≡ bestOf F of xs best ps
   unfolding bestOf
   best-no best j ps h = rw (le-ltb (smaller F of best xs) (smaller F of j xs) h, bestOf)
-
--- it depends on the entries alone
-bestOf-same : (F : ℕ) (of : ℕ → ℕ) (a b : List ℕ) → Same a b → (ps : List ℕ) (best : ℕ) → bestOf F of a best ps ≡ bestOf F of b best ps
-unfolding bestOf
-bestOf-same F of a b s [] best = refl
-bestOf-same F of a b s (p ∷ ps) best = rw (smaller-same F of best a b s, smaller-same F of p a b s) (bestOf-same F of a b s ps _)
-
-pub best-same : (F : ℕ) (of : ℕ → ℕ) (a b : List ℕ) → Same a b → bestPosition F of a ≡ bestPosition F of b
-best-same F of a b s = bestOf-same F of a b s (upFrom (F - 1) 2) 1
 
 -- where the smaller side is empty the first two entries agree
 agree : (F : ℕ) (of : ℕ → ℕ) (p x y : ℕ) (l : List ℕ) → smaller F of p (x ∷ y ∷ l) ≡ 0 → bitAt F (of x) p ≡ bitAt F (of y) p

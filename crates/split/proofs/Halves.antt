@@ -11,12 +11,13 @@ use Rattle.model.specs.Build.{bestPosition}
 use Rattle.model.specs.Tables.{linksOf, positionAt, leftAt, rightAt, signatureOf}
 use Rattle.model.specs.Stores.{_↤_, stores}
 use Rattle.model.specs.Rebuild.{groupReference, groupNodes}
+use Rattle.model.proofs.Stores.{sets-append}
 use Rattle.model.proofs.Members.{Same, same-length}
 use Rattle.split.specs.Split.{Blocks, Group, Parted, Halved, referenceTo}
 use Rattle.split.proofs.Sums.{same-sym, blocks-same, blocks-take, blocks-drop}
 use Rattle.split.proofs.Sides.{parted-left, parted-right}
 use Rattle.split.proofs.Best.{apart-same}
-use Rattle.split.proofs.Nodes.{sets-append, node-stores, reference-by, reference-same, half, Sizes, sizes, apart-half, nodes-step, nodes-length, nodes-same, nodes-few}
+use Rattle.split.proofs.Nodes.{node-stores, reference-by, reference-same, half, Sizes, sizes, apart-half, nodes-step, nodes-length, nodes-same, nodes-few}
 
 -- a list parted at its best position
 pub halve : (F : ℕ) (of : ℕ → ℕ) (before after : List ℕ) (p k : ℕ) → p ≡ bestPosition F of before → Parted F of p before after k → Halved F of before after p k

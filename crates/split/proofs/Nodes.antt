@@ -5,22 +5,17 @@ use Prim.Native.Nat.{ℕ, zero, suc, _+_, _-_, _*_, _≤_, _<_}
 use native.Mathlib.Omega.{arith}
 use mathlib.Core.Path.{_≡_, refl, sym}
 use mathlib.Core.List.{List, [], _∷_, _++_}
-use lib.ListN.{length, getD, set, length-append}
+use lib.ListN.{length, getD, length-append}
 use lib.Seq.{sets}
 use Rattle.model.specs.Build.{side, bestPosition}
 use Rattle.model.specs.Tables.{positionAt, leftAt, rightAt, signatureOf}
 use Rattle.model.specs.Stores.{_↤_, stores}
 use Rattle.model.specs.Rebuild.{groupReference, groupNodes}
 use Rattle.model.proofs.Members.{Same, same-length}
+use Rattle.model.proofs.Sides.{sides-length}
+use Rattle.model.proofs.Build.{side-same, best-same}
 use Rattle.split.specs.Split.{Apart, Below, referenceTo}
-use Rattle.model.proofs.Build.{side-same}
-use Rattle.split.proofs.Sides.{sides-length}
-use Rattle.split.proofs.Best.{best-same, splits, apart-side}
-
--- two runs of stores
-pub sets-append : (l : List ℕ) (a : ℕ) (xs ys : List ℕ) → sets l a (xs ++ ys) ≡ sets (sets l a xs) (a + length xs) ys
-sets-append l a [] ys = let e : a + 0 ≡ a = omega arith in rw e refl
-sets-append l a (x ∷ xs) ys = let e : a + suc (length xs) ≡ suc a + length xs = omega arith in rw e (sets-append (set l a x) (suc a) xs ys)
+use Rattle.split.proofs.Best.{splits, apart-side}
 
 -- a node's three stores, one after the other
 pub node-stores : (B : ℕ) (l : List ℕ) (i p x y : ℕ) → stores l ((positionAt B i ↤ p) ∷ (leftAt B i ↤ x) ∷ (rightAt B i ↤ y) ∷ []) ≡ sets l (positionAt B i) (p ∷ x ∷ y ∷ [])

@@ -5,10 +5,10 @@ use Prim.Native.Nat.{ℕ, zero, suc, _+_, _-_, _≤_, _<_}
 use native.Mathlib.Numerals.{add-one}
 use native.Mathlib.Omega.{arith}
 use mathlib.Core.Path.{_≡_, refl, sym, _∙_, ap}
-use mathlib.Core.List.{List, [], _∷_, _++_}
+use mathlib.Core.List.{List, [], _∷_}
 use lib.ListN.{length, getD, set, take, drop, length-set, length-drop, take-append-drop}
 use lib.Seq.{getD-take, getD-drop, length-take-le, take-suc}
-use Rattle.model.proofs.Members.{total, Same}
+use Rattle.model.proofs.Members.{total, total-append, Same}
 use Rattle.split.specs.Split.{Blocks}
 
 -- a store changes a sum by the one entry
@@ -16,10 +16,6 @@ total-set : (f : ℕ → ℕ) (l : List ℕ) (i v : ℕ) → i < length l → to
 total-set f [] i v h = omega arith
 total-set f (x ∷ l) zero v h = omega arith
 total-set f (x ∷ l) (suc i) v h = omega (arith, total-set f l i v (omega arith))
-
-pub total-append : (f : ℕ → ℕ) (a b : List ℕ) → total f (a ++ b) ≡ total f a + total f b
-total-append f [] b = omega arith
-total-append f (x ∷ a) b = omega (arith, total-append f a b)
 
 pub total-split : (f : ℕ → ℕ) (k : ℕ) (l : List ℕ) → total f (take k l) + total f (drop k l) ≡ total f l
 total-split f k l = sym (total-append f (take k l) (drop k l)) ∙ ap (total f) (take-append-drop k l)

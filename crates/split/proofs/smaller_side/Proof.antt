@@ -3,7 +3,7 @@
 use native.Mathlib.Omega.{arith}
 use Rattle.model.specs.Build.{smaller}
 use Rattle.model.specs.Tables.{signatureOf}
-use Rattle.split.proofs.Sides.{sides-length}
+use Rattle.model.proofs.Sides.{sides-length}
 use borrow.Author.Needs.{needs}
 use Rattle.split.proofs.smaller_side.Statement.{statement}
 use Rattle.split.proofs.smaller_side.Tie as tie
