@@ -89,7 +89,7 @@ fn find(
     if root == 0 {
         return no_list(0);
     }
-    let left = walk::walk(
+    let left = walk::visit(
         signatures,
         links,
         marks,

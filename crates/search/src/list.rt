@@ -53,7 +53,7 @@ pub fn list_marked(marks: &[u8], output: &mut [u32], blocks: usize, found: usize
 {
     let mut n: usize = 0;
     let mut from: usize = 0;
-    while from + marking::RUN <= blocks {
+    while from + marking::RUN <= blocks && n < found {
         n = list_run(marks, output, from, n, found);
         from += marking::RUN;
     }

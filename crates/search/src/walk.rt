@@ -1,7 +1,7 @@
 // The walk of a search: from a reference down, right only where the query has a 1. It is safe on any tables whose lengths fit, and ends
 // on them: untested positions and nodes left fall at each call, blocks left at each block of a chain.
 ghost use mathlib.Core.Path.{_≡_};
-ghost use Prim.Native.Nat.{_≤_};
+ghost use Prim.Native.Nat.{_≤_, _<_};
 ghost use lib.ListN.{length};
 ghost use Rattle.search.specs.Budget.{budgetOf};
 ghost use Rattle.search.specs.Search.{Sized, mayMark, chainTwin, leafTwin, walkTwin};
@@ -84,8 +84,8 @@ pub fn leaf(
     mark_chain(signatures, links, marks, query, head, rest)
 }
 
-// The subtree at a reference: a leaf, or a node and the sides that the query visits.
-pub fn walk(
+// The subtree at a reference: a leaf, or a node. It is short, so that a leaf costs no call.
+pub fn visit(
     signatures: &[u64],
     links: &[u32],
     marks: &mut [u8],
@@ -97,18 +97,33 @@ pub fn walk(
     requires { ⌜ Sized (now signatures) (now links) (now marks) query ⌝ }
     ensures { λ r. ⌜ (budgetOf r, now (marks .exit)) ≡ walkTwin untested (now (signatures .entry)) (now (links .entry)) query reference (budgetOf left) (now (marks .entry)) ⌝ }
 {
-    let blocks = signatures.len();
-    let at = reference as usize;
-    if at <= blocks {
+    if reference as usize <= signatures.len() {
         return leaf(signatures, links, marks, query, reference, left);
     }
+    walk(signatures, links, marks, query, reference, untested, left)
+}
+
+// The subtree at a node: the sides that the query visits.
+pub fn walk(
+    signatures: &[u64],
+    links: &[u32],
+    marks: &mut [u8],
+    query: u64,
+    reference: u32,
+    untested: u32,
+    left: u64,
+) -> u64
+    requires { ⌜ Sized (now signatures) (now links) (now marks) query × (length (now signatures) < reference) ⌝ }
+    ensures { λ r. ⌜ (budgetOf r, now (marks .exit)) ≡ walkTwin untested (now (signatures .entry)) (now (links .entry)) query reference (budgetOf left) (now (marks .entry)) ⌝ }
+{
+    let blocks = signatures.len();
     if untested == 0 {
         return budget::UNFIT;
     }
     if budget::nodes_in(left) <= 1 {
         return budget::UNFIT;
     }
-    let node = at - blocks;
+    let node = reference as usize - blocks;
     let side = tables::walk::edge(links, blocks, links[0], query, node);
     if 1 < side {
         return budget::UNFIT;
@@ -116,9 +131,9 @@ pub fn walk(
     let below = budget::take_node(left);
     let right = tables::nodes::side_of(links, blocks, node, 1);
     if side == 1 {
-        return walk(signatures, links, marks, query, right, untested - 1, below);
+        return visit(signatures, links, marks, query, right, untested - 1, below);
     }
     let first = tables::nodes::side_of(links, blocks, node, 0);
-    let rest = walk(signatures, links, marks, query, first, untested - 1, below);
-    walk(signatures, links, marks, query, right, untested - 1, rest)
+    let rest = visit(signatures, links, marks, query, first, untested - 1, below);
+    visit(signatures, links, marks, query, right, untested - 1, rest)
 }

@@ -1,4 +1,5 @@
--- `search::list::list_marked` meets its contract. The invariant: the output lists the blocks of the runs passed.
+-- `search::list::list_marked` meets its contract. The invariant: the output lists the blocks of the runs passed; where all are listed
+-- the last call has nothing left to do.
 -- Assumes nothing.
 use borrow.Author.Needs.{needs}
 use mathlib.Core.Path.{_∙_}
@@ -23,7 +24,7 @@ add-loop c = search needs
 
 list-run-requires : tie.Need-list-run-requires Inv-loop μ-loop
 list-run-requires c κs =
-    let at-loop = c .before .before in
+    let at-loop = c .before .before .before in
     let entry = at-loop .before .before .before in
     omega (arith, at-loop .loop .inv .1 .long, entry .pre .0, entry .pre .1, entry .pre .2)
 
@@ -36,7 +37,7 @@ loop-less c = search needs
 loop-again : tie.Need-loop-again Inv-loop μ-loop
 loop-again c =
     let at-list-run = c .before .before in
-    let at-loop = at-list-run .before .before .before in
+    let at-loop = at-list-run .before .before .before .before in
     (omega arith, part-then _ _ _ _ _ _ _ _ _ _ _ (omega arith) (at-loop .loop .inv .1) (at-list-run .list-run .ensures))
 
 list-blocks-requires : tie.Need-list-blocks-requires Inv-loop μ-loop
