@@ -103,7 +103,3 @@ module _ (S L : List ℕ) where
 
 pub filed-step : (L : List ℕ) (n : ℕ) → filedUpTo L (n + 1) ≡ filedUpTo L n + filedOf L (n + 1)
 filed-step L n = rw (add-one n) (omega arith)
-
-pub filed-few : (L : List ℕ) (n : ℕ) → ((b : ℕ) → 1 ≤ b → b ≤ n → filedOf L b ≤ 1) → filedUpTo L n ≤ n
-filed-few L zero h = omega arith
-filed-few L (suc n) h = omega (arith, h (suc n) (omega arith) (omega arith), filed-few L n (λ b x y. h b x (omega arith)))

@@ -14,7 +14,7 @@ use Rattle.model.specs.Tables.{word, rootAt, widthOf, rootOf, freeOf, countOf, 
 use Rattle.model.specs.Sound.{Shape, tip, Rooted, none, some, HoldsRoot, nodes, FreeChain, filedUpTo, SoundAt}
 use Rattle.model.specs.Stores.{stores}
 use Rattle.model.specs.File.{spotOf, firstStores, chainStores, splitStores, fileStores, fileLinks}
-use Rattle.tables.proofs.Counts.{node-left}
+use Rattle.tables.proofs.Counts.{node-left, filed-few}
 use Rattle.tables.proofs.Trees.{depth-root}
 use Rattle.tables.proofs.Ways.{Way, reach, spot, spotFrom-spot, part-holds}
 use Rattle.tables.proofs.After.{Old, old}
@@ -35,12 +35,8 @@ module _ (sigs links : List ℕ) (b s at h : ℕ) (is-at : at ≡ spotOf (length
   unfolding fileLinks fileStores
   links-split z n d e is-d is-e = rw (is-e, is-d) (rw (← is-at, is-h) (rw (ne-eqb h 0 z, ne-eqb (signatureOf sigs h) s n, fileStores)))
 
--- where filed words are 0 or 1, at most n of n blocks are filed, and fewer while one of them is not
+-- where filed words are 0 or 1, fewer than n of n blocks are filed while one of them is not
 module _ (links : List ℕ) where
-  filed-most : (n : ℕ) → ((c : ℕ) → 1 ≤ c → c ≤ n → filedOf links c ≤ 1) → filedUpTo links n ≤ n
-  filed-most zero o = omega arith
-  filed-most (suc n) o = omega (arith, o (suc n) (omega arith) (omega arith), filed-most n (λ c h h′. o c h (omega arith)))
-
   filed-fewer : (n b : ℕ) → 1 ≤ b → b ≤ n → filedOf links b ≡ 0 → ((c : ℕ) → 1 ≤ c → c ≤ n → filedOf links c ≤ 1) → filedUpTo links n < n
   filed-fewer zero b h k z o = absurd (omega arith)
   filed-fewer (suc n) b h k z o = go (ℕ-discrete b (suc n)) (λ k′. filed-fewer n b h k′ z (λ c x x′. o c x (omega arith)))
@@ -48,7 +44,7 @@ module _ (links : List ℕ) where
       go : Dec (b ≡ suc n) → (b ≤ n → filedUpTo links n < n) → filedUpTo links (suc n) < suc n
       go (yes e) ih =
           let z′ : filedOf links (suc n) ≡ 0 = rw (← e) z in
-          omega (arith, filed-most n (λ c x x′. o c x (omega arith)))
+          omega (arith, filed-few links n (λ c x x′. o c x (omega arith)))
       go (no d) ih = omega (arith, ih (omega arith), o (suc n) (omega arith) (omega arith))
 
 module _ {B F : ℕ} {sigs L : List ℕ} {S : SoundAt B F sigs L} {b s : ℕ} (Q : Fileable S b s) where

@@ -10,6 +10,7 @@ use Rattle.model.specs.Tables.{rootAt, freeAt, nextAt, positionAt, sideAt, free
 use Rattle.model.specs.Sound.{tip, Rooted, none, some, nodesIn, blocksIn, SoundAt}
 use Rattle.model.specs.Stores.{Store, _↤_, stores}
 use Rattle.model.specs.File.{filingStores, firstStores, fileSignatures}
+use Rattle.model.proofs.Members.{only}
 use Rattle.model.proofs.Stores.{stored-same, stored-at}
 use Rattle.tables.proofs.Trees.{treeRooted}
 use Rattle.tables.proofs.Counts.{free-same, free-range}
@@ -35,10 +36,6 @@ module _ {B F : ℕ} {sigs L : List ℕ} {S : SoundAt B F sigs L} {b s : ℕ} (Q
     next = λ c n h h′ z. omega arith;
   })
 
-  only : (c : ℕ) → (c ≡ b) ⊎ List·Memᴰ c [] → c ≡ b
-  only c (inl e) = e
-  only c (inr m) = absurd (List·Memᴰ·not-nil m)
-
   -- the words of the free nodes stay
   free-words : (i : ℕ) → List·Memᴰ i (S .free) → (positionOf B L′ i ≡ positionOf B L i) × (sideOf B L′ i 0 ≡ sideOf B L i 0) × (sideOf B L′ i 1 ≡ sideOf B L i 1)
   free-words i m =
@@ -52,7 +49,7 @@ module _ {B F : ℕ} {sigs L : List ℕ} {S : SoundAt B F sigs L} {b s : ℕ} (Q
     Q .to,
     stored-at L (filingStores L b []) (nextAt b) 0 ((rootAt ↤ b) ∷ []) (omega (arith, S .fits .links-long, Q .to)) (omega arith),
   )
-      (tt, λ c m. let x = only c (List·Memᴰ·cases-cons m) in (ap (filedOf L′) x ∙ kept .filed-own, ap (signatureOf (fileSignatures sigs b s)) x))
+      (tt, λ c m. let x = only b c (List·Memᴰ·cases-cons m) in (ap (filedOf L′) x ∙ kept .filed-own, ap (signatureOf (fileSignatures sigs b s)) x))
       (λ c n m. absurd (List·Memᴰ·not-nil (subst (λ (t : Rooted). List·Memᴰ c (blocksIn t)) e m)))
       (λ _. List·Memᴰ·head refl)
       (S .free)

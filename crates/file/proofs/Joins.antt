@@ -13,9 +13,9 @@ use Rattle.model.specs.Sound.{Shape, tip, some, Holds, Placed, nodes, blocks, S
 use Rattle.model.specs.Stores.{Store, _↤_, stores}
 use Rattle.model.specs.File.{filingStores, chainStores, fileSignatures}
 use Rattle.model.proofs.Stores.{stored-same, stored-at}
+use Rattle.model.proofs.Insert.{insert-same}
 use Rattle.tables.proofs.Shapes.{chain-move, chain-no-return}
 use Rattle.tables.proofs.Counts.{free-same, free-range}
-use Rattle.tables.proofs.Steps.{insert-equal}
 use Rattle.tables.proofs.Ways.{Way, spot, replace, pathTo, part-blocks, part-holds, part-placed}
 use Rattle.tables.proofs.Links.{spot-link}
 use Rattle.tables.proofs.Graft.{graft-nodes-old, graft-nodes-cases}
@@ -148,4 +148,4 @@ module _ {B F : ℕ} {sigs L : List ℕ} {S : SoundAt B F sigs L} {b s : ℕ} (Q
       stays i (inr m) = inr m
 
   pub join-good : Good Q (stores L (chainStores L b h))
-  join-good = good Q L′ kept (some (replace w (tip h (b ∷ cs)))) made (grown Q t is-t w (tip h (b ∷ cs)) (ap leaf (same-signature Q t is-t h head) ∙ sym (insert-equal F s (signatureOf sigs h) same)))
+  join-good = good Q L′ kept (some (replace w (tip h (b ∷ cs)))) made (grown Q t is-t w (tip h (b ∷ cs)) (ap leaf (same-signature Q t is-t h head) ∙ sym (insert-same F s (signatureOf sigs h) same)))

@@ -8,13 +8,14 @@ use mathlib.Core.Path.{_≡_, refl, sym, _∙_, ap, subst}
 use mathlib.Core.Logic.{_⊎_, inl, inr, _≢_}
 use mathlib.Core.List.{List, [], _∷_, _++_, List·Memᴰ, List·Memᴰ·head, List·Memᴰ·tail, List·Memᴰ·cases-cons, List·Memᴰ·not-nil, Memᴰ·cast}
 use Rattle.model.specs.Signature.{bitAt, firstDifference}
-use Rattle.model.specs.Tree.{leaf, insert, Edge, edge, Agrees, Untested}
+use Rattle.model.specs.Tree.{leaf, insert, edge, Agrees}
 use Rattle.model.specs.Tables.{word, rootAt, freeAt, nextAt, positionAt, sideAt, freeOf, nextOf, filedOf, positionOf, sideOf, leftOf, signatureOf}
 use Rattle.model.specs.Sound.{Shape, tip, some, Holds, Placed, nodes, blocks, FreeChain, SoundAt}
 use Rattle.model.specs.Stores.{Store, _↤_, stores}
 use Rattle.model.specs.File.{filingStores, splitStores, fileSignatures}
 use Rattle.model.proofs.Bits.{bit-below}
 use Rattle.model.proofs.Stores.{stored-same, stored-at}
+use Rattle.model.proofs.Trees.{untested}
 use Rattle.signature.proofs.Difference.{IsFirst, first-is}
 use Rattle.tables.proofs.Shapes.{holds-same, placed-same}
 use Rattle.tables.proofs.Counts.{free-same, free-range, free-no-return}
@@ -26,11 +27,6 @@ use Rattle.tables.proofs.Links.{IsLink, Apart, link-other, spot-link}
 use Rattle.tables.proofs.Graft.{graft-nodes-old, graft-nodes-new, graft-nodes-cases}
 use Rattle.tables.proofs.After.{Old, old, kept-filing, after-graft}
 use Rattle.file.proofs.Good.{Fileable, Rows, With, Good, good, not-zero, one, own-signature, another, same-signature, grown}
-
--- no position on a path is one where two signatures that agree with it differ
-untested : (F s a d : ℕ) (path : List Edge) → Agrees F s path → Agrees F a path → bitAt F s d ≢ bitAt F a d → Untested d path
-untested F s a d [] g h n = tt
-untested F s a d (edge q e ∷ path) g h n = ((λ x. n (subst (λ (y : ℕ). bitAt F s y ≡ bitAt F a y) (sym x) (g .0 ∙ sym (h .0)))), untested F s a d path (g .1) (h .1) n)
 
 module _ {B F : ℕ} {sigs L : List ℕ} {S : SoundAt B F sigs L} {b s : ℕ} (Q : Fileable S b s) (t : Shape) (is-t : S .tree ≡ some t) (h : ℕ) (cs : List ℕ) (w : Way F s (tip h cs) t) where
   O : Old S t

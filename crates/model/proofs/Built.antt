@@ -13,16 +13,12 @@ use Rattle.model.specs.Tree.{Tree, signatures, Edge, edge, Agrees}
 use Rattle.model.specs.Build.{side, smaller, bestPosition, buildWithin, build}
 use Rattle.model.proofs.Bits.{bit-cases}
 use Rattle.model.proofs.Pigeon.{Distinct}
-use Rattle.model.proofs.Members.{total-append, Same}
+use Rattle.model.proofs.Members.{some-in, total-append, Same}
 use Rattle.model.proofs.Keep.{keep-distinct}
 use Rattle.model.proofs.Sides.{side-member, side-has, sides-total, sides-length}
 use Rattle.model.proofs.Trees.{Below, Proper, untested}
 use Rattle.model.proofs.Best.{best-position}
 use Rattle.model.proofs.Differ.{first-differs}
-
-some-in : (l : List ℕ) → 1 ≤ length l → (x : ℕ) × List·Memᴰ x l
-some-in [] h = absurd (omega arith)
-some-in (x ∷ l) h = (x, List·Memᴰ·head refl)
 
 in-some : (l : List ℕ) (x : ℕ) → List·Memᴰ x l → 1 ≤ length l
 in-some [] x m = absurd (List·Memᴰ·not-nil m)

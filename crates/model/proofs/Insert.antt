@@ -37,7 +37,7 @@ module _ (F s : ℕ) where
   unfolding insert split
   insert-after a n e = rw (ne-eqb a s n, insert, e, split)
 
-  insert-same : (a : ℕ) → a ≡ s → insert F s (leaf a) ≡ leaf a
+  pub insert-same : (a : ℕ) → a ≡ s → insert F s (leaf a) ≡ leaf a
   unfolding insert
   insert-same a e = rw (eq-eqb a s e, insert)
 

@@ -12,6 +12,15 @@ use borrow.Author.Tests.{eqb-true, eqb-false}
 use Rattle.model.proofs.Pigeon.{Distinct, distinct-fits, without, without-keeps, without-in, without-gone}
 use Rattle.model.specs.Basics.{has, once}
 
+-- a list that is not empty has an element, and one of a single element has that
+pub some-in : (l : List ℕ) → 1 ≤ length l → (x : ℕ) × List·Memᴰ x l
+some-in [] h = absurd (omega arith)
+some-in (x ∷ l) h = (x, List·Memᴰ·head refl)
+
+pub only : (x y : ℕ) → (y ≡ x) ⊎ List·Memᴰ y [] → y ≡ x
+only x y (inl e) = e
+only x y (inr m) = absurd (List·Memᴰ·not-nil m)
+
 pub has-in : (s : ℕ) (l : List ℕ) → has s l ≡ true → List·Memᴰ s l
 unfolding has
 has-in s [] e = let z : _≡_ {A = ℕ} 0 1 = cc in absurd (omega arith)

@@ -16,18 +16,18 @@ use Rattle.model.proofs.Members.{total, total-append, Same}
 use Rattle.model.proofs.Trees.{Below, Proper, left-bit, right-bit, no-leaf}
 
 -- a path without one of its edges
-drop-agrees : (F s : ℕ) (ds es : List Edge) (p e : ℕ) → Agrees F s (ds ++ (edge p e ∷ es)) → Agrees F s (ds ++ es)
-drop-agrees F s [] es p e a = a .1
-drop-agrees F s (edge x y ∷ ds) es p e a = (a .0, drop-agrees F s ds es p e (a .1))
+pub drop-agrees : (F s : ℕ) (ds : List Edge) (e : Edge) (es : List Edge) → Agrees F s (ds ++ e ∷ es) → Agrees F s (ds ++ es)
+drop-agrees F s [] (edge x y) es a = a .1
+drop-agrees F s (edge x y ∷ ds) e es a = (a .0, drop-agrees F s ds e es (a .1))
 
-drop-untested : (q : ℕ) (ds es : List Edge) (p e : ℕ) → Untested q (ds ++ (edge p e ∷ es)) → Untested q (ds ++ es)
-drop-untested q [] es p e u = u .1
-drop-untested q (edge x y ∷ ds) es p e u = (u .0, drop-untested q ds es p e (u .1))
+pub drop-untested : (q : ℕ) (ds : List Edge) (e : Edge) (es : List Edge) → Untested q (ds ++ e ∷ es) → Untested q (ds ++ es)
+drop-untested q [] (edge x y) es u = u .1
+drop-untested q (edge x y ∷ ds) e es u = (u .0, drop-untested q ds e es (u .1))
 
 raise : (F : ℕ) (ds es : List Edge) (p e : ℕ) (t : Tree) → Below F (ds ++ (edge p e ∷ es)) t → Below F (ds ++ es) t
 raise F ds es p e nothing f = f
-raise F ds es p e (leaf s) f = drop-agrees F s ds es p e f
-raise F ds es p e (node q l r) f = (f .0, f .1, drop-untested q ds es p e (f .2), raise F (edge q 0 ∷ ds) es p e l (f .3), raise F (edge q 1 ∷ ds) es p e r (f .4))
+raise F ds es p e (leaf s) f = drop-agrees F s ds (edge p e) es f
+raise F ds es p e (node q l r) f = (f .0, f .1, drop-untested q ds (edge p e) es (f .2), raise F (edge q 0 ∷ ds) es p e l (f .3), raise F (edge q 1 ∷ ds) es p e r (f .4))
 
 -- a node of which a side may be gone
 gone-left : (p : ℕ) (r x : Tree) → x ≡ nothing → join p x r ≡ r

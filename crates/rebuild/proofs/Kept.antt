@@ -4,19 +4,18 @@
 use Prim.Native.Nat.{ℕ, zero, suc, _+_, _-_, _≤_, _<_, max}
 use native.Mathlib.Omega.{arith}
 use mathlib.Core.Path.{_≡_, refl, sym, _∙_, ap, ap₂, subst}
-use mathlib.Core.Bool.{true, false}
 use mathlib.Core.List.{List, _∷_}
-use lib.Dec.{eqb}
 use lib.ListN.{length}
 use Rattle.model.specs.Basics.{upFrom}
 use Rattle.model.specs.Tree.{signatures}
 use Rattle.model.specs.Build.{build}
-use Rattle.model.specs.Tables.{nextAt, filedAt, widthOf, toldBlocks, rootOf, countOf, nextOf, filedOf, signatureOf, treeFrom, treeOf}
+use Rattle.model.specs.Tables.{nextAt, filedAt, widthOf, toldBlocks, rootOf, countOf, nextOf, filedOf, treeFrom, treeOf}
 use Rattle.model.specs.Sound.{nodesIn, SoundAt, Sound}
 use Rattle.model.specs.Rebuild.{headsFrom, headsOf, rebuildLinks}
-use Rattle.model.specs.Ledger.{Entry, unfiled, pair, entryIn, entriesFrom, ledgerOf, isStored, stored}
+use Rattle.model.specs.Ledger.{Entry, entriesFrom, ledgerOf, isStored, stored}
 use Rattle.model.proofs.Members.{Same, same-members, once-distinct, in-once, once-in, in-has, has-in}
 use Rattle.model.proofs.Build.{build-same}
+use Rattle.tables.proofs.Entries.{entry-same}
 use Rattle.tables.proofs.Trees.{tree-of-sound}
 use Rattle.tables.proofs.Stored.{stored-leaves}
 use Rattle.tables.proofs.Unique.{tree-one, free-list-one}
@@ -33,15 +32,11 @@ pub record Unchanged (B : ℕ) (links after : List ℕ) : Type 0 where
   pub filed : (b : ℕ) → 1 ≤ b → b ≤ B → filedOf after b ≡ filedOf links b
 
 -- the entries of blocks whose filed words are the same
-entry-same : (sigs L L′ : List ℕ) (b : ℕ) → filedOf L′ b ≡ filedOf L b → entryIn sigs L′ b ≡ entryIn sigs L b
-unfolding entryIn
-entry-same sigs L L′ b e = let entry : ℕ → Entry = λ x. elim (eqb x 0) [ true ↦ unfiled | false ↦ pair (signatureOf sigs b) ] in ap entry e
-
 entries-same : (sigs L L′ : List ℕ) (n b : ℕ) → ((c : ℕ) → b ≤ c → c < b + n → filedOf L′ c ≡ filedOf L c) → entriesFrom sigs L′ n b ≡ entriesFrom sigs L n b
 unfolding entriesFrom
 entries-same sigs L L′ zero b o = refl
 entries-same sigs L L′ (suc n) b o =
-    ap₂ _∷_ (entry-same sigs L L′ b (o b (omega arith) (omega arith))) (entries-same sigs L L′ n (suc b) (λ c h h′. o c (omega arith) (omega arith)))
+    ap₂ _∷_ (entry-same sigs L sigs L′ b (o b (omega arith) (omega arith)) refl) (entries-same sigs L L′ n (suc b) (λ c h h′. o c (omega arith) (omega arith)))
 
 module _ (sigs links : List ℕ) (S : Sound sigs links) where
   abbrev after : List ℕ

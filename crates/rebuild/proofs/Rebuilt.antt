@@ -1,7 +1,7 @@
 -- Rebuild keeps sound tables sound, and its tree is made anew from the stored signatures. The heads of the old tree are a group of
 -- distinct signatures; the links laid of it spell the shape of its splits, and rows, count and signatures stay.
 -- Assumes nothing.
-use Prim.Native.Nat.{ℕ, zero, suc, _-_, _^_, _≤_, _<_, max}
+use Prim.Native.Nat.{ℕ, suc, _-_, _^_, _≤_, _<_, max}
 use native.Mathlib.Decide.{decLt}
 use native.Mathlib.Omega.{arith}
 use mathlib.Core.Path.{_≡_, refl, sym, _∙_, subst}
@@ -13,13 +13,13 @@ use Rattle.model.specs.Basics.{upFrom}
 use Rattle.model.specs.Tree.{Tree, nothing, signatures}
 use Rattle.model.specs.Build.{build, buildWithin}
 use Rattle.model.specs.Tables.{positionAt, nextAt, filedAt, widthOf, rootOf, freeOf, nextOf, filedOf, signatureOf, treeOf}
-use Rattle.model.specs.Sound.{Rooted, none, some, HoldsRoot, PlacedRoot, nodesIn, blocksIn, filedUpTo, FitsAt, SoundAt, Sound}
+use Rattle.model.specs.Sound.{Rooted, none, some, HoldsRoot, PlacedRoot, nodesIn, blocksIn, FitsAt, SoundAt, Sound}
 use Rattle.model.specs.Clear.{freeNodes}
 use Rattle.model.specs.Rebuild.{headsFrom, headsOf, groupNodes, groupLinks}
 use Rattle.model.proofs.Keep.{upFrom-has, upFrom-range}
 use Rattle.model.proofs.Members.{Same}
 use Rattle.tables.proofs.Shapes.{chain-same, chain-range}
-use Rattle.tables.proofs.Counts.{heads}
+use Rattle.tables.proofs.Counts.{heads, filed-same}
 use Rattle.tables.proofs.Trees.{depth-root, treeShape, treeRooted, tree-of-sound}
 use Rattle.split.specs.Split.{Apart, Below}
 use Rattle.tables.proofs.Spelled.{Spells, spells-append, free-chain}
@@ -27,10 +27,6 @@ use Rattle.rebuild.proofs.Laid.{tree-end, laid-long, laid-width, laid-t
 use Rattle.rebuild.proofs.Heads.{Heads, heads-some, headsFrom-shape, headsFrom-none, chainIn, heads-apart, heads-chains, heads-cover, heads-few}
 use Rattle.rebuild.proofs.Shaped.{shapeOf, nodes-order, heads-stay, blocks-all, holds-shape, placed-shape}
 use Rattle.rebuild.proofs.Tree.{signatures-heads, tree-shape}
-
-filed-same : (L L′ : List ℕ) (n : ℕ) → ((c : ℕ) → 1 ≤ c → c ≤ n → filedOf L′ c ≡ filedOf L c) → filedUpTo L′ n ≡ filedUpTo L n
-filed-same L L′ zero o = refl
-filed-same L L′ (suc n) o = omega (arith, o (suc n) (omega arith) (omega arith), filed-same L L′ n (λ c h h′. o c h (omega arith)))
 
 -- a chain whose rows are as they were
 heads-moved : (B : ℕ) (sigs L L′ : List ℕ) → ((c : ℕ) → 1 ≤ c → c ≤ B → (nextOf L′ c ≡ nextOf L c) × (filedOf L′ c ≡ filedOf L c))

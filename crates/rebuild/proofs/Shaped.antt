@@ -1,22 +1,23 @@
 -- The shape that Rebuild writes of a group of heads: the links spell it, it is placed, since both sides of a split have some and differ
 -- at its position, its nodes are numbered in order, and every chain's blocks stand in it. Each by induction on the splits.
 -- Assumes nothing.
-use Prim.Native.Nat.{ℕ, zero, suc, _+_, _-_, _≤_, _<_}
+use Prim.Native.Nat.{ℕ, zero, suc, _+_, _-_, _≤_}
 use native.Mathlib.Omega.{arith}
 use mathlib.Core.Path.{_≡_, refl, sym, _∙_, ap, ap₂, subst}
-use mathlib.Core.Logic.{_⊎_, inl, inr, _≢_}
+use mathlib.Core.Logic.{_⊎_, inl, inr}
 use mathlib.Core.List.{List, [], _∷_, _++_, List·Memᴰ, List·Memᴰ·head, List·Memᴰ·cases-cons, List·Memᴰ·not-nil, Memᴰ·append-left, Memᴰ·append-right}
 use lib.ListN.{length}
 use Rattle.model.specs.Basics.{upFrom}
 use Rattle.model.specs.Signature.{bitAt}
-use Rattle.model.specs.Tree.{Edge, edge, Agrees, Untested}
+use Rattle.model.specs.Tree.{Edge, edge, Agrees}
 use Rattle.model.specs.Build.{bestPosition}
 use Rattle.model.specs.Tables.{positionAt, leftOf, rightOf, signatureOf}
 use Rattle.model.specs.Sound.{Shape, tip, fork, Holds, nodes, blocks, Placed}
 use Rattle.model.specs.Rebuild.{groupReference, groupNodes}
 use Rattle.model.proofs.Bits.{bit-cases}
 use Rattle.model.proofs.Best.{best-position}
-use Rattle.model.proofs.Members.{total-append, Same}
+use Rattle.model.proofs.Members.{some-in, total-append, Same}
+use Rattle.model.proofs.Trees.{untested}
 use Rattle.model.proofs.Sides.{side-member, side-has, sides-total}
 use Rattle.tables.proofs.Counts.{heads}
 use Rattle.split.specs.Split.{Apart, Below}
@@ -33,15 +34,6 @@ shapeOf F sigs ch (suc m) (b ∷ c ∷ g) i =
     fork i (bestPosition F (signatureOf sigs) (b ∷ c ∷ g))
     (shapeOf F sigs ch m (half F sigs 0 (b ∷ c ∷ g)) (i + 1))
     (shapeOf F sigs ch m (half F sigs 1 (b ∷ c ∷ g)) (i + length (half F sigs 0 (b ∷ c ∷ g))))
-
--- no position on a path is one where two signatures that agree with it differ
-untested : (F s a d : ℕ) (path : List Edge) → Agrees F s path → Agrees F a path → bitAt F s d ≢ bitAt F a d → Untested d path
-untested F s a d [] g h n = tt
-untested F s a d (edge q e ∷ path) g h n = ((λ x. n (subst (λ (y : ℕ). bitAt F s y ≡ bitAt F a y) (sym x) (g .0 ∙ sym (h .0)))), untested F s a d path (g .1) (h .1) n)
-
-some-member : (l : List ℕ) → 0 < length l → (x : ℕ) × List·Memᴰ x l
-some-member [] h = absurd (omega arith)
-some-member (x ∷ l) h = (x, List·Memᴰ·head refl)
 
 upFrom-append : (a b i : ℕ) → upFrom a i ++ upFrom b (i + a) ≡ upFrom (a + b) i
 unfolding upFrom
@@ -179,8 +171,8 @@ module _ (F : ℕ) (sigs : List ℕ) (ch : ℕ → List ℕ) (below : Below F si
         (λ m x i path H a. (a x (List·Memᴰ·head refl), H x (List·Memᴰ·head refl) .alike))
         (λ m g i two z tl tr path H a.
         let w = best-position F (signatureOf sigs) g width in
-        let u = some-member (half F sigs 0 g) (z .left) in
-        let v = some-member (half F sigs 1 g) (z .right) in
+        let u = some-in (half F sigs 0 g) (z .left) in
+        let v = some-in (half F sigs 1 g) (z .right) in
         let mu = half-member 0 g (u .0) (u .1) in
         let mv = half-member 1 g (v .0) (v .1) in
         let bu = mu .1 in

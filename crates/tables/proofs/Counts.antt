@@ -54,12 +54,13 @@ module _ (B F : ℕ) (sigs L : List ℕ) where
       inB c (inl e) = downFrom-has B c (omega arith) (omega arith)
       inB c (inr m) = let g = blocks-range B L t r q c (heads-blocks t c m) in downFrom-has B c (g .0) (g .1)
 
--- the count of filed blocks, where one block's filed word changes
-module _ (L L′ : List ℕ) (b : ℕ) where
-  filed-before : (n : ℕ) → n < b → ((c : ℕ) → c ≢ b → 1 ≤ c → c ≤ n → word L′ (filedAt c) ≡ word L (filedAt c)) → filedUpTo L′ n ≡ filedUpTo L n
-  filed-before zero h o = refl
-  filed-before (suc n) h o = omega (arith, o (suc n) (omega arith) (omega arith) (omega arith), filed-before n (omega arith) (λ c x y z. o c x y (omega arith)))
+-- the count of filed blocks, where no filed word changes
+pub filed-same : (L L′ : List ℕ) (n : ℕ) → ((c : ℕ) → 1 ≤ c → c ≤ n → word L′ (filedAt c) ≡ word L (filedAt c)) → filedUpTo L′ n ≡ filedUpTo L n
+filed-same L L′ zero o = refl
+filed-same L L′ (suc n) o = omega (arith, o (suc n) (omega arith) (omega arith), filed-same L L′ n (λ c x y. o c x (omega arith)))
 
+-- and where one block's does
+module _ (L L′ : List ℕ) (b : ℕ) where
   pub filed-changed : (n : ℕ) → 1 ≤ b → b ≤ n → ((c : ℕ) → c ≢ b → 1 ≤ c → c ≤ n → word L′ (filedAt c) ≡ word L (filedAt c))
       → filedUpTo L′ n + word L (filedAt b) ≡ filedUpTo L n + word L′ (filedAt b)
   filed-changed zero h h′ o = absurd (omega arith)
@@ -67,8 +68,13 @@ module _ (L L′ : List ℕ) (b : ℕ) where
     where
       go : Dec (b ≡ suc n) → (b ≤ n → filedUpTo L′ n + word L (filedAt b) ≡ filedUpTo L n + word L′ (filedAt b)) → filedUpTo L′ (suc n) + word L (filedAt b) ≡ filedUpTo L (suc n) + word L′ (filedAt b)
       go (yes e) ih =
-          omega (arith, ap (λ (x : ℕ). word L (filedAt x)) e, ap (λ (x : ℕ). word L′ (filedAt x)) e, filed-before n (omega arith) (λ c x y z. o c x y (omega arith)))
+          omega (arith, ap (λ (x : ℕ). word L (filedAt x)) e, ap (λ (x : ℕ). word L′ (filedAt x)) e, filed-same L L′ n (λ c x y. o c (omega arith) x (omega arith)))
       go (no d) ih = omega (arith, o (suc n) (λ e. d (sym e)) (omega arith) (omega arith), ih (omega arith))
+
+-- where filed words are 0 or 1, at most n of n blocks are filed
+pub filed-few : (L : List ℕ) (n : ℕ) → ((b : ℕ) → 1 ≤ b → b ≤ n → word L (filedAt b) ≤ 1) → filedUpTo L n ≤ n
+filed-few L zero h = omega arith
+filed-few L (suc n) h = omega (arith, h (suc n) (omega arith) (omega arith), filed-few L n (λ b x y. h b x (omega arith)))
 
 -- a filed block is counted
 pub filed-one : (L : List ℕ) (b n : ℕ) → 1 ≤ b → b ≤ n → word L (filedAt b) ≤ filedUpTo L n

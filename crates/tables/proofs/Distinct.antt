@@ -2,14 +2,13 @@
 -- node have nothing in common. So there are at most B blocks, and a chain is no longer.
 -- Assumes nothing.
 use Prim.Native.Nat.{ℕ, _≤_}
-use native.Mathlib.Omega.{arith}
 use mathlib.Core.Logic.{_⊎_, inl, inr}
 use mathlib.Core.List.{List, [], _∷_, List·Memᴰ, List·Memᴰ·append-cases}
 use lib.ListN.{length}
 use Rattle.model.specs.Tree.{Edge, edge}
 use Rattle.model.specs.Tables.{leftOf, rightOf}
 use Rattle.model.specs.Sound.{Shape, tip, fork, Chain, Holds, nodes, blocks, Placed}
-use Rattle.model.proofs.Pigeon.{Distinct, distinct-append, distinct-fits, downFrom, downFrom-length, downFrom-has}
+use Rattle.model.proofs.Pigeon.{Distinct, distinct-append, few-within}
 use Rattle.tables.proofs.Shapes.{chain-no-return, chain-range, blocks-range, blocks-apart, nodes-apart, not-below}
 
 module _ (B : ℕ) (L : List ℕ) where
@@ -17,12 +16,8 @@ module _ (B : ℕ) (L : List ℕ) where
   chain-distinct h [] q = (chain-no-return B L h [] q, tt)
   chain-distinct h (c ∷ cs) q = (chain-no-return B L h (c ∷ cs) q, chain-distinct c cs (q .3))
 
-  -- blocks 1 to B, none twice
-  few : (cs : List ℕ) → Distinct cs → ((c : ℕ) → List·Memᴰ c cs → (1 ≤ c) × (c ≤ B)) → length cs ≤ B
-  few cs d r = omega (arith, downFrom-length B, distinct-fits cs (downFrom B) d (λ c m. downFrom-has B c (r c m .0) (r c m .1)))
-
   pub chain-short : (h : ℕ) (cs : List ℕ) → Chain B L h cs → length cs ≤ B
-  chain-short h cs q = few cs (chain-distinct h cs q .1) (chain-range B L h cs q)
+  chain-short h cs q = few-within B cs (chain-distinct h cs q .1) (chain-range B L h cs q)
 
   module _ (F : ℕ) (sigs : List ℕ) where
     pub blocks-distinct : (path : List Edge) (t : Shape) (r : ℕ) → Holds B L r t → Placed F sigs L path t → Distinct (blocks t)
@@ -32,7 +27,7 @@ module _ (B : ℕ) (L : List ℕ) where
         (blocks-apart B L F sigs path i p l k pl)
 
     pub blocks-few : (path : List Edge) (t : Shape) (r : ℕ) → Holds B L r t → Placed F sigs L path t → length (blocks t) ≤ B
-    blocks-few path t r q pl = few (blocks t) (blocks-distinct path t r q pl) (blocks-range B L t r q)
+    blocks-few path t r q pl = few-within B (blocks t) (blocks-distinct path t r q pl) (blocks-range B L t r q)
 
     pub nodes-distinct : (path : List Edge) (t : Shape) (r : ℕ) → Holds B L r t → Placed F sigs L path t → Distinct (nodes t)
     nodes-distinct path (tip h cs) r q pl = tt

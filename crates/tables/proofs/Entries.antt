@@ -64,7 +64,7 @@ module _ (sigs links : List ℕ) where
 
 -- two tables of which only block b's row and signature differ
 module _ (sigs links sigs′ links′ : List ℕ) where
-  entry-same : (c : ℕ) → filedOf links′ c ≡ filedOf links c → signatureOf sigs′ c ≡ signatureOf sigs c → entryIn sigs′ links′ c ≡ entryIn sigs links c
+  pub entry-same : (c : ℕ) → filedOf links′ c ≡ filedOf links c → signatureOf sigs′ c ≡ signatureOf sigs c → entryIn sigs′ links′ c ≡ entryIn sigs links c
   unfolding entryIn
   entry-same c f e = let entry : ℕ → ℕ → Entry = λ x y. elim (eqb x 0) [ true ↦ unfiled | false ↦ pair y ] in ap₂ entry f e
 

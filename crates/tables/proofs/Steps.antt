@@ -26,10 +26,6 @@ insert-split F s a zero n z = rw (ne-eqb a s n, insert, z, split)
 insert-split F s a (suc zero) n z = rw (ne-eqb a s n, insert, z, split)
 insert-split F s a (suc (suc e)) n z = absurd (omega (arith, edge-small F s (firstDifference F s a) z))
 
-pub insert-equal : (F s a : ℕ) → a ≡ s → insert F s (leaf a) ≡ leaf a
-unfolding insert
-insert-equal F s a e = rw (eq-eqb a s e, insert)
-
 -- no side is gone
 join-shapes : (sigs : List ℕ) (p : ℕ) (x y : Shape) → join p (treeShape sigs x) (treeShape sigs y) ≡ node p (treeShape sigs x) (treeShape sigs y)
 unfolding join

@@ -11,17 +11,7 @@ use borrow.Author.Tests.{eq-eqb, ne-eqb}
 use Rattle.model.specs.Tables.{nextOf}
 use Rattle.model.specs.Sound.{Chain}
 use Rattle.model.specs.Withdraw.{blockBefore}
-use Rattle.model.proofs.Pigeon.{Distinct, distinct-fits, downFrom, downFrom-length, downFrom-has}
-use Rattle.tables.proofs.Shapes.{chain-range, chain-no-return}
-
-module _ (B : ℕ) (L : List ℕ) where
-  pub chain-distinct : (h : ℕ) (cs : List ℕ) → Chain B L h cs → Distinct cs
-  chain-distinct h [] q = tt
-  chain-distinct h (c ∷ cs) q = (chain-no-return B L c cs (q .3), chain-distinct c cs (q .3))
-
-  pub chain-short : (h : ℕ) (cs : List ℕ) → Chain B L h cs → length cs ≤ B
-  chain-short h cs q =
-      omega (arith, downFrom-length B, distinct-fits cs (downFrom B) (chain-distinct h cs q) (λ c m. let r = chain-range B L h cs q c m in downFrom-has B c (r .0) (r .1)))
+use Rattle.tables.proofs.Distinct.{chain-short}
 
 -- The search for the block before b has come to block c, with n blocks left to pass; a is the definition's answer.
 pub record Sought (B : ℕ) (L : List ℕ) (b a n c : ℕ) : Type 0 where

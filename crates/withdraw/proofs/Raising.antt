@@ -9,11 +9,13 @@ use mathlib.Core.Logic.{_⊎_, inl, inr, _≢_}
 use mathlib.Core.List.{List, [], _∷_, _++_, List·Memᴰ, List·Memᴰ·head, List·Memᴰ·tail, List·Memᴰ·cases-cons, List·Memᴰ·not-nil, Memᴰ·cast}
 use lib.Pow.{pow-pos}
 use Rattle.model.specs.Signature.{bitAt}
-use Rattle.model.specs.Tree.{leaf, remove, Edge, edge, Agrees, Untested}
+use Rattle.model.specs.Tree.{remove, Edge, edge}
 use Rattle.model.specs.Tables.{word, rootAt, freeAt, nextAt, positionAt, sideAt, leftAt, rightAt, freeOf, nextOf, filedOf, sideOf, signatureOf}
 use Rattle.model.specs.Sound.{Shape, tip, fork, Rooted, none, some, Holds, Placed, nodes, blocks, blocksIn, FreeChain, SoundAt}
 use Rattle.model.specs.Stores.{Store, _↤_, stores}
 use Rattle.model.specs.Withdraw.{withdrawalStores, lastStores, raiseStores, withdrawSignatures}
+use Rattle.model.proofs.Members.{only}
+use Rattle.model.proofs.Remove.{drop-agrees, drop-untested}
 use Rattle.model.proofs.Stores.{stored-same, stored-at}
 use Rattle.tables.proofs.Shapes.{holds-same, placed-same}
 use Rattle.tables.proofs.Counts.{free-same, free-range}
@@ -27,24 +29,11 @@ use Rattle.tables.proofs.After.{Old, old, Kept, Quiet, kept-withdrawal, after, 
 use Rattle.withdraw.proofs.Freed.{free-stays, freed-outside, freed-all}
 use Rattle.withdraw.proofs.Withdrawing.{Another, Leaves, others}
 
--- the only entry
-one : (x c : ℕ) → (c ≡ x) ⊎ List·Memᴰ c [] → c ≡ x
-one x c (inl e) = e
-one x c (inr m) = absurd (List·Memᴰ·not-nil m)
-
 -- a shape placed under a path is placed under the path less an edge
-untested-less : (p : ℕ) (ext : List Edge) (e : Edge) (path : List Edge) → Untested p (ext ++ e ∷ path) → Untested p (ext ++ path)
-untested-less p [] (edge q x) path u = u .1
-untested-less p (edge q x ∷ ext) e path u = (u .0, untested-less p ext e path (u .1))
-
-agrees-less : (F s : ℕ) (ext : List Edge) (e : Edge) (path : List Edge) → Agrees F s (ext ++ e ∷ path) → Agrees F s (ext ++ path)
-agrees-less F s [] (edge q x) path u = u .1
-agrees-less F s (edge q x ∷ ext) e path u = (u .0, agrees-less F s ext e path (u .1))
-
 placed-less : (F : ℕ) (sigs L : List ℕ) (ext : List Edge) (e : Edge) (path : List Edge) (t : Shape) → Placed F sigs L (ext ++ e ∷ path) t → Placed F sigs L (ext ++ path) t
-placed-less F sigs L ext e path (tip h cs) q = (agrees-less F (signatureOf sigs h) ext e path (q .0), q .1)
+placed-less F sigs L ext e path (tip h cs) q = (drop-agrees F (signatureOf sigs h) ext e path (q .0), q .1)
 placed-less F sigs L ext e path (fork i p l k) q =
-    (q .0, q .1, untested-less p ext e path (q .2), placed-less F sigs L (edge p 0 ∷ ext) e path l (q .3), placed-less F sigs L (edge p 1 ∷ ext) e path k (q .4))
+    (q .0, q .1, drop-untested p ext e path (q .2), placed-less F sigs L (edge p 0 ∷ ext) e path l (q .3), placed-less F sigs L (edge p 1 ∷ ext) e path k (q .4))
 
 module _ {B F : ℕ} {sigs L : List ℕ} (S : SoundAt B F sigs L) (b : ℕ) (b1 : 1 ≤ b) (bB : b ≤ B) (filed : filedOf L b ≡ 1) where
   module _ (t : Shape) (is-t : S .tree ≡ some t) (alone : (c : ℕ) → Another S b b1 bB filed c → ⊥) where
@@ -187,7 +176,7 @@ module _ {B F : ℕ} {sigs L : List ℕ} (S : SoundAt B F sigs L) (b : ℕ) (b1 
       inside j m = List·Memᴰ·tail (off-side nodes (tip b []) x e m)
 
       out : (j : ℕ) → List·Memᴰ j (i ∷ []) → List·Memᴰ j (nodes (forked e i p (tip b []) x)) × (List·Memᴰ j (nodes x) → ⊥)
-      out j m = let y = one i j (List·Memᴰ·cases-cons m) in (List·Memᴰ·head y, λ n. i-out j n y)
+      out j m = let y = only i j (List·Memᴰ·cases-cons m) in (List·Memᴰ·head y, λ n. i-out j n y)
 
       made : (T : SoundAt B F sigs′ raised) × (T .tree ≡ some (replace w x))
       made = after-graft S b b1 bB 0 0 (omega arith) (pow-pos F) (λ y. refl) raised K t is-t w x
@@ -203,7 +192,7 @@ module _ {B F : ℕ} {sigs L : List ℕ} (S : SoundAt B F sigs L) (b : ℕ) (b1 
           (freed-all S t is-t w x (i ∷ []) theirs inside out)
         where
           stay : (c : ℕ) → c ≢ b → List·Memᴰ c (b ∷ []) ⊎ List·Memᴰ c (blocks x) → List·Memᴰ c (blocks x)
-          stay c n (inl m) = absurd (n (one b c (List·Memᴰ·cases-cons m)))
+          stay c n (inl m) = absurd (n (only b c (List·Memᴰ·cases-cons m)))
           stay c n (inr m) = m
 
       tree-raised : treeShape sigs′ (replace w x) ≡ remove F s (treeShape sigs t)
@@ -235,7 +224,7 @@ module _ {B F : ℕ} {sigs L : List ℕ} (S : SoundAt B F sigs L) (b : ℕ) (b1 
         made : (T : SoundAt B F sigs′ L′) × (T .tree ≡ none)
         made = after S b b1 bB 0 0 (omega arith) (pow-pos F) (λ y. refl) L′ K none
             (stored-at L (withdrawalStores L b []) rootAt 0 [] (omega (arith, S .fits .links-long)) tt) tt
-            (λ c n m. absurd (n (one b c (List·Memᴰ·cases-cons (subst (λ (x : Shape). List·Memᴰ c (blocks x)) e (subst (λ (x : Rooted). List·Memᴰ c (blocksIn x)) is-t m))))))
+            (λ c n m. absurd (n (only b c (List·Memᴰ·cases-cons (subst (λ (x : Shape). List·Memᴰ c (blocks x)) e (subst (λ (x : Rooted). List·Memᴰ c (blocksIn x)) is-t m))))))
             (λ y. absurd (omega arith))
             (S .free)
             (free-same B L L′ (freeOf L) (freeOf L′) (S .free) (stored-same L (lastStores L b) freeAt (omega arith))

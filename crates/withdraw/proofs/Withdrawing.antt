@@ -21,7 +21,7 @@ use Rattle.tables.proofs.Ways.{Way, spot, replace, pathTo, part-blocks, part-ho
 use Rattle.tables.proofs.Links.{Apart, spot-link}
 use Rattle.tables.proofs.Graft.{SameNode}
 use Rattle.tables.proofs.After.{signature-other, Old, old, Kept, Quiet, kept-withdrawal, after-graft}
-use Rattle.withdraw.proofs.Chains.{chain-distinct}
+use Rattle.tables.proofs.Distinct.{chain-distinct}
 use Rattle.withdraw.proofs.Freed.{free-stays, freed-outside, freed-all}
 use Rattle.withdraw.proofs.Cut.{before, before-in, before-other, chain-cut}
 
@@ -217,7 +217,7 @@ module _ {B F : ℕ} {sigs L : List ℕ} (S : SoundAt B F sigs L) (b : ℕ) (b1 
 
         sub : (d : ℕ) → (d ≡ h) ⊎ List·Memᴰ d (without m) → (d ≢ b) × List·Memᴰ d (h ∷ cs)
         sub d (inl e) = ((λ y. chain-no-return B L h cs (lh .3) (Memᴰ·cast (sym e ∙ y) m)), List·Memᴰ·head e)
-        sub d (inr y) = ((λ e. without-gone m (chain-distinct B L h cs (lh .3)) (Memᴰ·cast (sym e) y)), List·Memᴰ·tail (without-in m y))
+        sub d (inr y) = ((λ e. without-gone m (chain-distinct B L h cs (lh .3) .1) (Memᴰ·cast (sym e) y)), List·Memᴰ·tail (without-in m y))
 
         sup : (d : ℕ) → d ≢ b → (d ≡ h) ⊎ List·Memᴰ d cs → List·Memᴰ d (h ∷ without m)
         sup d n (inl e) = List·Memᴰ·head e

@@ -23,7 +23,7 @@ use Rattle.tables.proofs.Sides.{forked, edge-small, sides-held}
 use Rattle.tables.proofs.Ways.{Way, Reached, reach, spot, part-holds, found, spotFrom-spot}
 use Rattle.tables.proofs.After.{signature-own, Old, old}
 use Rattle.tables.proofs.Entries.{entry-unfiled, ledger-set}
-use Rattle.withdraw.proofs.Chains.{chain-short}
+use Rattle.tables.proofs.Distinct.{chain-short}
 use Rattle.withdraw.proofs.Cut.{blockBefore-is}
 use Rattle.withdraw.proofs.Over.{Over, over, node-reference, parentFrom-spot}
 use Rattle.withdraw.proofs.Withdrawing.{Another, Leaves, others, head-leaves, later-leaves}

@@ -12,12 +12,8 @@ use native.Mathlib.Omega.{arith}
 use lib.ListN.{length, drop, getD}
 use lib.Seq.{drop-cons, drop-length}
 use Rattle.model.specs.Words.{Part, separator, ended, scan, partsOf}
+use Rattle.model.proofs.Asking.{true-false}
 use Rattle.words.specs.Runs.{Inner, LongestRun, Held, Apart, AreRuns}
-
-clash : {A : Type 0} {t : Bool} → t ≡ true → t ≡ false → A
-clash p q =
-    let z : _≡_ {A = ℕ} 0 1 = cc in
-    absurd (omega arith)
 
 apart-from : (m n : ℕ) (ps : List Part) → m ≤ n → Apart n ps → Apart m ps
 apart-from m n [] h a = tt
@@ -50,7 +46,7 @@ ended-found text s zero ps fits bytes before after f =
     other : (i : ℕ) → s ≤ i → i < length text → separator (getD text i 0) ≡ false → Dec (i ≡ s) → Held i ps
     other i l h g (yes e) =
         let e′ : s + 0 ≡ i = omega arith in
-        clash (ap (λ (k : ℕ). separator (getD text k 0)) (sym e′) ∙ after (omega arith)) g
+        true-false (ap (λ (k : ℕ). separator (getD text k 0)) (sym e′) ∙ after (omega arith)) g
     other i l h g (no n) = f .all i (omega arith) h g
 ended-found text s (suc n) ps fits bytes before after f =
     record {
@@ -70,7 +66,7 @@ ended-found text s (suc n) ps fits bytes before after f =
     other i l h g (yes k) d = inl (l, k)
     other i l h g (no k) (yes e) =
         let h′ : s + suc n < length text = omega arith in
-        clash (ap (λ (x : ℕ). separator (getD text x 0)) e ∙ after h′) g
+        true-false (ap (λ (x : ℕ). separator (getD text x 0)) e ∙ after h′) g
     other i l h g (no k) (no n′) = inr (f .all i (omega arith) h g)
 
 -- the pass, m bytes before the end
@@ -126,7 +122,7 @@ start-le text i p q x y hp hq = go (decLt (q .start) (p .start))
   where
     go : Dec (q .start < p .start) → p .start ≤ q .start
     go (no k) = omega arith
-    go (yes k) = clash (x .before (omega arith)) (y .bytes (p .start - 1) (omega arith) (omega arith))
+    go (yes k) = true-false (x .before (omega arith)) (y .bytes (p .start - 1) (omega arith) (omega arith))
 
 end-le : (text : List ℕ) (i : ℕ) (p q : Part) → LongestRun text p → LongestRun text q → p .start ≤ i → i < q .start + q .size → i < p .start + p .size
     → q .start ≤ i → q .start + q .size ≤ p .start + p .size
@@ -134,7 +130,7 @@ end-le text i p q x y hp hq hp′ hq′ = go (decLt (p .start + p .size) (q .sta
   where
     go : Dec (p .start + p .size < q .start + q .size) → q .start + q .size ≤ p .start + p .size
     go (no k) = omega arith
-    go (yes k) = clash (x .after (omega (arith, y .inside))) (y .bytes (p .start + p .size) (omega arith) k)
+    go (yes k) = true-false (x .after (omega (arith, y .inside))) (y .bytes (p .start + p .size) (omega arith) k)
 
 pub run-unique : (text : List ℕ) (i : ℕ) (p q : Part) → LongestRun text p → LongestRun text q
     → (p .start ≤ i) × (i < p .start + p .size) → (q .start ≤ i) × (i < q .start + q .size) → p ≡ q
