@@ -165,57 +165,67 @@ pub unsafe fn withdraw(signatures: &mut [u64], links: &mut [u32], block: u32) {
     signatures[b - 1] = 0;
 }
 
-fn heads(links: &[u32], blocks: usize, r: usize, out: &mut Vec<u32>) {
+unsafe fn heads(links: &[u32], blocks: usize, r: usize, out: &mut Vec<u32>) {
     if r <= blocks {
         out.push(r as u32);
     } else {
         let row = 2 * blocks + 3 * (r - blocks) + 2;
-        heads(links, blocks, links[row + 1] as usize, out);
-        heads(links, blocks, links[row + 2] as usize, out);
+        heads(links, blocks, *links.get_unchecked(row + 1) as usize, out);
+        heads(links, blocks, *links.get_unchecked(row + 2) as usize, out);
     }
 }
 
-fn place(signatures: &[u64], links: &mut [u32], group: &mut [u32], node: usize) -> u32 {
+unsafe fn place(signatures: &[u64], links: &mut [u32], group: &mut [u32], node: usize) -> u32 {
     if group.len() == 1 {
         return group[0];
     }
     let (blocks, width) = (signatures.len(), links[0]);
+    let bit = |b: u32, p: u32| (*signatures.get_unchecked(b as usize - 1) >> (width - p)) & 1;
     let (mut best, mut size) = (1, 0);
     for p in 1..=width {
-        let ones: u64 = group.iter().map(|&b| (signatures[b as usize - 1] >> (width - p)) & 1).sum();
-        let smaller = (ones as usize).min(group.len() - ones as usize);
+        let mut ones = 0;
+        for i in 0..group.len() {
+            ones += bit(*group.get_unchecked(i), p) as usize;
+        }
+        let smaller = ones.min(group.len() - ones);
         if smaller > size {
             (best, size) = (p, smaller);
         }
     }
     let (mut i, mut k) = (0, group.len());
     while i < k {
-        if (signatures[group[i] as usize - 1] >> (width - best)) & 1 == 0 {
+        if bit(*group.get_unchecked(i), best) == 0 {
             i += 1;
         } else {
             k -= 1;
             group.swap(i, k);
         }
     }
-    let (left, right) = group.split_at_mut(k);
+    let (left, right) = group.split_at_mut_unchecked(k);
     let l = place(signatures, links, left, node + 1);
     let r = place(signatures, links, right, node + k);
     let row = 2 * blocks + 3 * node + 2;
-    links[row..row + 3].copy_from_slice(&[best, l, r]);
+    *links.get_unchecked_mut(row) = best;
+    *links.get_unchecked_mut(row + 1) = l;
+    *links.get_unchecked_mut(row + 2) = r;
     (blocks + node) as u32
 }
 
-pub fn rebuild(signatures: &[u64], links: &mut [u32]) {
+/// # Safety
+/// The tables are sound.
+pub unsafe fn rebuild(signatures: &[u64], links: &mut [u32], group: &mut Vec<u32>) {
     let blocks = signatures.len();
-    let mut group = Vec::new();
+    group.clear();
     if links[2] != 0 {
-        heads(links, blocks, links[2] as usize, &mut group);
-        links[2] = place(signatures, links, &mut group, 1);
+        heads(links, blocks, links[2] as usize, group);
+        links[2] = place(signatures, links, group, 1);
     }
     let from = group.len().max(1);
     links[3] = if from < blocks { from as u32 } else { 0 };
     for i in from..blocks {
         let row = 2 * blocks + 3 * i + 2;
-        links[row..row + 3].copy_from_slice(&[0, if i + 1 < blocks { i as u32 + 1 } else { 0 }, 0]);
+        *links.get_unchecked_mut(row) = 0;
+        *links.get_unchecked_mut(row + 1) = if i + 1 < blocks { i as u32 + 1 } else { 0 };
+        *links.get_unchecked_mut(row + 2) = 0;
     }
 }

@@ -139,6 +139,22 @@ fn searches(name: &str, tree: &str, x: &mut Index, rng: &mut Rng) {
     }
 }
 
+/// How a search grows with the number of blocks: queries of 8 bits on rebuilt trees of random signatures of weight 32.
+fn growth(n: usize, rng: &mut Rng) {
+    let signatures: Vec<u64> = (0..n).map(|_| rng.bits(32, 0)).collect();
+    let mut x = Index::filed(&signatures);
+    x.rebuild();
+    let queries: Vec<u64> = (0..64).map(|i| rng.bits(8, signatures[i * 7 % n])).collect();
+    let compares: u64 = queries.iter().map(|&q| x.search(q).compares as u64).sum();
+    let (mut ours, mut by_hand) = (f64::INFINITY, f64::INFINITY);
+    for _ in 0..9 {
+        ours = ours.min(least(1, || queries.iter().for_each(|&q| drop(black_box(x.search(q))))));
+        by_hand = by_hand.min(least(1, || queries.iter().for_each(|&q| drop(black_box(x.hand(q))))));
+    }
+    let (a, c) = (ours / queries.len() as f64, compares as f64 / queries.len() as f64);
+    println!("| {n} | {c:.0} | {:.1} | {:.1} | {:.2} |", a / 1000.0, a / c, ours / by_hand);
+}
+
 fn changes(name: &str, signatures: &[u64]) {
     let n = signatures.len() as u32;
     let mut x = Index::filed(signatures);
@@ -152,13 +168,14 @@ fn changes(name: &str, signatures: &[u64]) {
         file_hand = file_hand.min(least(1, || (1..=n).for_each(|b| unsafe { hand::file(s, l, b, signatures[b as usize - 1]) })));
     }
     let filed = x.links.clone();
+    let mut group = Vec::with_capacity(signatures.len());
     let (mut rebuild, mut rebuild_hand) = (f64::INFINITY, f64::INFINITY);
     for _ in 0..turns {
         x.links.copy_from_slice(&filed);
         rebuild = rebuild.min(least(1, || x.rebuild()));
         let ours = x.links.clone();
         x.links.copy_from_slice(&filed);
-        rebuild_hand = rebuild_hand.min(least(1, || hand::rebuild(&x.signatures, &mut x.links)));
+        rebuild_hand = rebuild_hand.min(least(1, || unsafe { hand::rebuild(&x.signatures, &mut x.links, &mut group) }));
         assert!(ours == x.links);
     }
     let audit = least(turns, || x.audit());
@@ -189,6 +206,12 @@ fn main() {
         searches(name, "as filed", &mut x, &mut rng);
         x.rebuild();
         searches(name, "rebuilt", &mut x, &mut rng);
+    }
+    println!();
+    println!("| B | compares | us a search | ns a compare | to hand-written |");
+    println!("|---|---|---|---|---|");
+    for n in [1024, 4096, 16384, 65535] {
+        growth(n, &mut rng);
     }
     println!();
     println!("| store | call | us | to hand-written |");
