@@ -51,7 +51,21 @@ def printed(stream, rng):
     return out
 
 
+def prompt():
+    """A line appears when its slip is complete, while the pipe stays open, and not before."""
+    p = subprocess.Popen([SIGRUN], stdin=subprocess.PIPE, stdout=subprocess.PIPE)
+    os.write(p.stdin.fileno(), slip(0, 4) + slip(1, 1, 5)[:9])
+    first = os.read(p.stdout.fileno(), 1000)
+    os.write(p.stdin.fileno(), slip(1, 1, 5)[9:])
+    second = os.read(p.stdout.fileno(), 1000)
+    p.stdin.close()
+    rest = p.stdout.read()
+    p.wait()
+    return (first, second, rest) == (b'0 0 0 0 0\n', b'1 0 0 0 0\n', b'')
+
+
 def main():
+    if not prompt(): sys.exit('failed: a line was late, early or wrong on an open pipe')
     rng = random.Random(20261115)
     total = 0
     for turn in range(60):
@@ -71,7 +85,7 @@ def main():
             print('failed:')
             for s in slips: print('  ' + s.hex(' ', 4))
             sys.exit(1)
-    print(f'60 streams, {total} slips in pieces, as the request says')
+    print(f'60 streams, {total} slips in pieces, as the request says; lines appear while the pipe is open')
 
 
 main()
