@@ -10,11 +10,12 @@ use lib.Dec.{eqb}
 use lib.ListN.{length}
 use borrow.Author.Tests.{eqb-false, not-true, le-leb, eq-eqb}
 use Rattle.model.specs.Limits.{widest, mostBlocks}
-use Rattle.model.specs.Tables.{linksOf, widthOf, toldBlocks, filedOf}
+use Rattle.model.specs.Tables.{widthOf, toldBlocks, filedOf}
 use Rattle.model.specs.Sound.{Sound}
 use Rattle.model.specs.Questions.{Asked, asksTables, ask, isBlock, clearRefusal, fileRefusal, withdrawRefusal, rebuildRefusal, searchRefusal, auditRefusal, Call, clear, file, withdraw, rebuild, search, audit, Work, refusal}
 use Rattle.model.specs.Ledger.{hasPair, ledgerOf, asksLedger}
 use Rattle.model.proofs.Asking.{both, in-range, ask-zero}
+use Rattle.tables.proofs.Fits.{lengths-fit}
 use Rattle.tables.proofs.Entries.{entries-length, entries-of, entry-filed}
 
 ask-same : (n : ℕ) (t : Bool) (k l : ℕ) → (t ≡ true → k ≡ l) → ask n t k ≡ ask n t l
@@ -56,7 +57,7 @@ module _ (sigs links : List ℕ) where
 
   module _ (S : Sound sigs links) where
     lengths-tables : asksTables sigs links .lengths ≡ true
-    lengths-tables = rw (le-leb 1 (length sigs) (S .fits .blocks-from), le-leb (length sigs) mostBlocks (S .fits .blocks-to), eq-eqb (length links) (linksOf (length sigs)) (S .fits .links-long))
+    lengths-tables = lengths-fit sigs links (S .fits .blocks-from) (S .fits .blocks-to) (S .fits .links-long)
 
     lengths-ledger : asksLedger (ledgerOf sigs links) .lengths ≡ true
     lengths-ledger = rw (entries-length sigs links (length sigs) 1, le-leb 1 (length sigs) (S .fits .blocks-from), le-leb (length sigs) mostBlocks (S .fits .blocks-to))

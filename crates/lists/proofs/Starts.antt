@@ -19,7 +19,8 @@ use Rattle.lists.specs.Stepped.{Stepped}
 use Rattle.model.specs.Claim.{Claim, zeros}
 use Rattle.clear.proofs.Cleared.{clear-sound, clear-tree, clear-ledger}
 use Rattle.lists.proofs.Steps.{begins-sound}
-use Rattle.lists.proofs.Zeros.{lengths-empty, lengths-fit}
+use Rattle.tables.proofs.Fits.{lengths-fit}
+use Rattle.lists.proofs.Zeros.{lengths-empty}
 use Rattle.lists.proofs.OnZeros.{clear-step}
 use Rattle.lists.proofs.Demand.{demand}
 

@@ -6,7 +6,7 @@ use mathlib.Core.Path.{_≡_, refl, sym, _∙_, ap}
 use mathlib.Core.Bool.{true, false}
 use mathlib.Core.List.{List, []}
 use lib.ListN.{length, replicate, length-replicate, getD-replicate}
-use borrow.Author.Tests.{eq-eqb, le-leb}
+use borrow.Author.Tests.{le-leb}
 use Rattle.model.specs.Limits.{mostBlocks}
 use Rattle.model.specs.Basics.{has, once}
 use Rattle.model.specs.Tree.{nothing, signatures}
@@ -14,6 +14,7 @@ use Rattle.model.specs.Tables.{word, linksOf, widthOf, rootOf, filedAt, treeOf}
 use Rattle.model.specs.Questions.{Asked, asksTables, ask, clearRefusal, fileRefusal, withdrawRefusal, rebuildRefusal, searchRefusal, auditRefusal, Work, Call, clear, file, withdraw, rebuild, search, audit, refusal}
 use Rattle.model.specs.Ledger.{Entry, unfiled, pairSignatures, isStored, emptyLedger, ledgerOf, asksLedger}
 use Rattle.model.specs.Claim.{Paths, Kept}
+use Rattle.tables.proofs.Fits.{lengths-fit}
 use Rattle.tables.proofs.Trees.{treeFrom-none}
 use Rattle.tables.proofs.Entries.{entry-unfiled, entries-ext}
 
@@ -56,9 +57,6 @@ blank-clears A l w W audit e = absurd (omega (arith, rw (l, w) at e))
 -- the lengths of a ledger of B blocks fit
 pub lengths-empty : (B F : ℕ) → 1 ≤ B → B ≤ mostBlocks → asksLedger (emptyLedger B F) .lengths ≡ true
 lengths-empty B F h k = rw (length-replicate {A = Entry} B unfiled, le-leb 1 B h, le-leb B mostBlocks k)
-
-pub lengths-fit : (sigs links : List ℕ) → 1 ≤ length sigs → length sigs ≤ mostBlocks → length links ≡ linksOf (length sigs) → asksTables sigs links .lengths ≡ true
-lengths-fit sigs links h k e = rw (le-leb 1 (length sigs) h, le-leb (length sigs) mostBlocks k, eq-eqb (length links) (linksOf (length sigs)) e)
 
 module _ (B : ℕ) (b1 : 1 ≤ B) (b2 : B ≤ mostBlocks) where
   abbrev sigs : List ℕ

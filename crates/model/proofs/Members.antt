@@ -1,4 +1,4 @@
--- Membership as a test, each element once, and sums over lists with the same elements.
+-- Members of a list, membership as a test, each element once, and sums over lists with the same elements.
 -- Assumes nothing.
 use Prim.Native.Nat.{ℕ, _+_, _≤_}
 use native.Mathlib.Omega.{arith}

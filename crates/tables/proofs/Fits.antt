@@ -1,4 +1,5 @@
 -- Question 4's test is the fact that the tables fit, both ways: each part of the test is a comparison, and its answer is the fact.
+-- A block's row stands inside links that fit.
 -- Assumes nothing.
 use Prim.Native.Nat.{ℕ, _≤_, _<_}
 use native.Mathlib.Omega.{arith}
@@ -21,6 +22,10 @@ lengths-of B n e =
     let q = both {t = blocksFit B} e in
     let r = in-range B mostBlocks (q .0) in
     (r .0, r .1, eqb-true n (linksOf B) (q .1))
+
+-- and the other way
+pub lengths-fit : (sigs links : List ℕ) → 1 ≤ length sigs → length sigs ≤ mostBlocks → length links ≡ linksOf (length sigs) → asksTables sigs links .lengths ≡ true
+lengths-fit sigs links h k e = rw (le-leb 1 (length sigs) h, le-leb (length sigs) mostBlocks k, eq-eqb (length links) (linksOf (length sigs)) e)
 
 pub width-of : (F : ℕ) → widthFits F ≡ true → (1 ≤ F) × (F ≤ widest)
 width-of F e = in-range F widest e
