@@ -1,13 +1,14 @@
 -- The questions of a search in order: each no is the refusal where the questions before it passed, and a refusal of 0 says that all did.
 -- Assumes nothing.
-use Prim.Native.Nat.{ℕ, suc, _^_, _≤_, _<_}
+use Prim.Native.Nat.{ℕ, _^_, _≤_, _<_}
 use native.Mathlib.Omega.{arith}
-use mathlib.Core.Path.{_≡_, refl, sym, _∙_}
+use mathlib.Core.Path.{_≡_, sym, _∙_}
 use mathlib.Core.Bool.{Bool, true, false}
 use mathlib.Core.List.{List}
 use lib.Dec.{leb, ltb}
 use lib.ListN.{length}
 use borrow.Author.Tests.{lt-leb, le-leb, leb-true, ltb-true}
+use Rattle.model.proofs.Asking.{ask-zero}
 use Rattle.model.specs.Questions.{Asked, ask, tablesFit, asksTables, searchRefusal}
 use Rattle.tables.proofs.Fits.{fits-of}
 use Rattle.search.specs.Search.{Sized}
@@ -19,11 +20,6 @@ ask-yes n t later e = rw (e, ask)
 ask-no : (n : ℕ) (t : Bool) (later : ℕ) → t ≡ false → ask n t later ≡ n
 unfolding ask
 ask-no n t later e = rw (e, ask)
-
-ask-passed : (n : ℕ) (t : Bool) (later : ℕ) → ask (suc n) t later ≡ 0 → (t ≡ true) × (later ≡ 0)
-unfolding ask
-ask-passed n true later e = (refl, e)
-ask-passed n false later e = absurd (omega arith)
 
 ask-most : (n k : ℕ) (t : Bool) (later : ℕ) → n ≤ k → later ≤ k → ask n t later ≤ k
 unfolding ask
@@ -56,10 +52,10 @@ module _ (A : Asked) (q marks output : ℕ) where
   pub all-passed : searchRefusal A q marks output ≡ 0 → (tablesFit A ≡ true) × (q < 2 ^ A .width) × (A .blocks ≤ marks) × (A .blocks ≤ output)
   unfolding searchRefusal
   all-passed z =
-      let a = ask-passed 3 (tablesFit A) _ z in
-      let b = ask-passed 5 (ltb q (2 ^ A .width)) _ (a .1) in
-      let c = ask-passed 8 (leb (A .blocks) marks) _ (b .1) in
-      let d = ask-passed 9 (leb (A .blocks) output) 0 (c .1) in
+      let a = ask-zero 3 (tablesFit A) _ z in
+      let b = ask-zero 5 (ltb q (2 ^ A .width)) _ (a .1) in
+      let c = ask-zero 8 (leb (A .blocks) marks) _ (b .1) in
+      let d = ask-zero 9 (leb (A .blocks) output) 0 (c .1) in
       (a .0, ltb-true _ _ (b .0), leb-true _ _ (c .0), leb-true _ _ (d .0))
 
   -- no question has a larger number than 10

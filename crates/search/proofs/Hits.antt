@@ -8,14 +8,16 @@ use mathlib.Core.Logic.{_⊎_, inl, inr, ⊎-elim}
 use mathlib.Core.Bool.{Bool, true, false}
 use mathlib.Core.List.{List, [], _∷_, _++_, List·Memᴰ, List·Memᴰ·not-nil, List·Memᴰ·append-cases, Memᴰ·append-left, Memᴰ·append-right}
 use lib.ListN.{length, length-append}
+use Rattle.model.proofs.Pigeon.{few-within}
+use Rattle.tables.proofs.Distinct.{chain-distinct}
 use Rattle.model.specs.Signature.{bitAt, coversb}
 use Rattle.model.specs.Tree.{Edge, edge, compared, nodesRead}
 use Rattle.model.specs.Tables.{leftOf, rightOf, signatureOf}
-use Rattle.model.specs.Sound.{Shape, tip, fork, Chain, Holds, nodes, blocks, Placed}
+use Rattle.model.specs.Sound.{Shape, tip, fork, Holds, nodes, blocks, Placed}
 use Rattle.model.proofs.Bits.{bit-cases}
-use Rattle.model.proofs.Pigeon.{Distinct, distinct-fits, distinct-append, downFrom, downFrom-length, downFrom-has}
+use Rattle.model.proofs.Pigeon.{Distinct, distinct-append}
 use Rattle.signature.proofs.Covering.{coversb-sound}
-use Rattle.tables.proofs.Shapes.{blocks-range, blocks-placed, blocks-apart, chain-no-return}
+use Rattle.tables.proofs.Shapes.{blocks-range, blocks-placed, blocks-apart}
 use Rattle.tables.proofs.Counts.{heads, heads-count, heads-blocks, heads-distinct}
 use Rattle.search.specs.Search.{pick}
 use Rattle.search.proofs.Shaped.{hits, reads, compares, reads-set, reads-clear, compares-set, compares-clear, hits-set, hits-clear}
@@ -54,26 +56,17 @@ module _ (sigs : List ℕ) (F q : ℕ) where
       go (inl e) a b = rw (compares-clear sigs F q i p l k e) (omega (arith, length-append (heads l) (heads k)))
       go (inr e) a b = rw (compares-set sigs F q i p l k e) (omega (arith, length-append (heads l) (heads k)))
 
--- blocks 1 to B, none twice, are at most B
-few-blocks : (B : ℕ) (bs : List ℕ) → Distinct bs → ((b : ℕ) → List·Memᴰ b bs → (1 ≤ b) × (b ≤ B)) → length bs ≤ B
-few-blocks B bs d range =
-    subst (λ (n : ℕ). length bs ≤ n) (downFrom-length B) (distinct-fits bs (downFrom B) d (λ b m. let r = range b m in downFrom-has B b (r .0) (r .1)))
-
 module _ (B F : ℕ) (sigs L : List ℕ) where
   pub few-heads : (path : List Edge) (t : Shape) (r : ℕ) → Holds B L r t → Placed F sigs L path t → suc (length (nodes t)) ≤ B
   few-heads path t r o pl =
-      subst (λ (n : ℕ). n ≤ B) (heads-count t) (few-blocks B (heads t) (heads-distinct B F sigs L path t pl) (λ b m. blocks-range B L t r o b (heads-blocks t b m)))
-
-  chain-distinct : (h : ℕ) (cs : List ℕ) → Chain B L h cs → Distinct (h ∷ cs)
-  chain-distinct h [] o = (List·Memᴰ·not-nil, tt)
-  chain-distinct h (c ∷ cs) o = (chain-no-return B L h (c ∷ cs) o, chain-distinct c cs (o .3))
+      subst (λ (n : ℕ). n ≤ B) (heads-count t) (few-within B (heads t) (heads-distinct B F sigs L path t pl) (λ b m. blocks-range B L t r o b (heads-blocks t b m)))
 
   module _ (q : ℕ) where
     pub hits-distinct : (path : List Edge) (t : Shape) (r : ℕ) → Holds B L r t → Placed F sigs L path t → Distinct (hits sigs F q t)
     hits-distinct path (tip h cs) r o pl = go (coversb F (signatureOf sigs h) q)
       where
         go : (t : Bool) → Distinct (pick t (h ∷ cs) [])
-        go true = chain-distinct h cs (o .3)
+        go true = chain-distinct B L h cs (o .3)
         go false = tt
     hits-distinct path (fork i p l k) r o pl =
         go (bit-cases F q p) (hits-distinct (edge p 0 ∷ path) l (leftOf B L i) (o .4) (pl .3)) (hits-distinct (edge p 1 ∷ path) k (rightOf B L i) (o .5) (pl .4))
@@ -85,7 +78,7 @@ module _ (B F : ℕ) (sigs L : List ℕ) where
         go (inr e) a b = subst Distinct (sym (hits-set sigs F q i p l k e)) b
 
     pub few-hits : (path : List Edge) (t : Shape) (r : ℕ) → Holds B L r t → Placed F sigs L path t → length (hits sigs F q t) ≤ B
-    few-hits path t r o pl = few-blocks B (hits sigs F q t) (hits-distinct path t r o pl) (λ b m. blocks-range B L t r o b (hits-blocks sigs F q t b m))
+    few-hits path t r o pl = few-within B (hits sigs F q t) (hits-distinct path t r o pl) (λ b m. blocks-range B L t r o b (hits-blocks sigs F q t b m))
 
     -- each of them covers the query
     pub hits-cover : (path : List Edge) (t : Shape) → Placed F sigs L path t → (b : ℕ) → List·Memᴰ b (hits sigs F q t) → coversb F (signatureOf sigs b) q ≡ true

@@ -69,7 +69,10 @@ digits-digits-requires : (t : ℕ) → digits-lts.Need-digits-requires (
   digits-below t,
   digits.Post,
 ) (digits-at t) digits.Post
-digits-digits-requires t c κs = (omega (arith, c .before .if1 .left, c .before .before .before .pre .0), omega (arith, room-more _ _ _ (c .before .if1 .left) (c .before .before .before .pre .1)))
+digits-digits-requires t c κs =
+    let at-if1 = c .before in
+    let entry = at-if1 .before .before in
+    (omega (arith, at-if1 .if1 .left, entry .pre .0), omega (arith, room-more _ _ _ (at-if1 .if1 .left) (entry .pre .1)))
 
 digits-cast-push-2 : (t : ℕ) → digits-lts.Need-cast-push-2 (
   push-reads.Asked,
@@ -93,7 +96,11 @@ digits-push-requires-2 : (t : ℕ) → digits-lts.Need-push-requires-2 (
   digits-below t,
   digits.Post,
 ) (digits-at t) digits.Post
-digits-push-requires-2 t c κs = omega (arith, room-more _ _ _ (c .before .before .before .before .before .if1 .left) (c .before .before .before .before .before .before .before .pre .1), c .before .before .before .digits .ensures .place, c .before .before .before .digits .ensures .long)
+digits-push-requires-2 t c κs =
+    let at-digits = c .before .before .before in
+    let at-if1 = at-digits .before .before in
+    let entry = at-if1 .before .before in
+    omega (arith, room-more _ _ _ (at-if1 .if1 .left) (entry .pre .1), at-digits .digits .ensures .place, at-digits .digits .ensures .long)
 
 digits-same-length-2 : (t : ℕ) → digits-lts.Need-same-length-2 (
   push-reads.Asked,
@@ -109,7 +116,11 @@ digits-returns-2 : (t : ℕ) → digits-lts.Need-returns-2 (
   digits-below t,
   digits.Post,
 ) (digits-at t) digits.Post
-digits-returns-2 t c = puts-as _ _ _ _ _ _ (sym (decimal-more _ (c .before .before .before .before .before .before .before .before .if1 .left))) (puts-then _ _ _ _ _ _ _ _ (c .before .before .before .before .before .before .digits .ensures) (c .before .before .push2 .ensures))
+digits-returns-2 t c =
+    let at-push2 = c .before .before in
+    let at-digits = at-push2 .before .before .before .before in
+    let at-if1 = at-digits .before .before in
+    puts-as _ _ _ _ _ _ (sym (decimal-more _ (at-if1 .if1 .left))) (puts-then _ _ _ _ _ _ _ _ (at-digits .digits .ensures) (at-push2 .push2 .ensures))
 
 pub +digits-spec : {M : Type 1} → statement M
 +digits-spec = close μ-digits λ t. digits-lts.spec (

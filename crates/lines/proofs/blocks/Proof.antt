@@ -25,7 +25,11 @@ shared-slice-read-number : tie.Need-shared-slice-read-number Inv-loop μ-loop
 shared-slice-read-number c = search needs
 
 number-requires : tie.Need-number-requires Inv-loop μ-loop
-number-requires c κs = omega (arith, c .before .before .before .before .before .before .pre .1, c .before .before .before .loop .inv .1 .long, c .before .before .before .loop .inv .2, c .before .before .loop-test .taken)
+number-requires c κs =
+    let at-loop-test = c .before .before in
+    let at-loop = at-loop-test .before in
+    let entry = at-loop .before .before .before in
+    omega (arith, entry .pre .1, at-loop .loop .inv .1 .long, at-loop .loop .inv .2, at-loop-test .loop-test .taken)
 
 add-i : tie.Need-add-i Inv-loop μ-loop
 add-i c = search needs
@@ -34,13 +38,20 @@ loop-less : tie.Need-loop-less Inv-loop μ-loop
 loop-less c = search needs
 
 loop-again : tie.Need-loop-again Inv-loop μ-loop
-loop-again c = (omega arith, puts-block _ _ _ _ _ _ (c .before .before .before .before .before .before .loop .i) (c .before .before .before .before .before .before .before .before .before .args .output .now) (omega (arith, c .before .before .before .before .before .before .before .before .before .pre .0)) (c .before .before .before .before .before .before .loop .inv .1) (c .before .before .number .ensures .0), omega (arith, c .before .before .number .ensures .1, c .before .before .before .before .before .before .loop .inv .2))
+loop-again c =
+    let at-number = c .before .before in
+    let at-loop = at-number .before .before .before .before in
+    let entry = at-loop .before .before .before in
+    (omega arith, puts-block _ _ _ _ _ _ (at-loop .loop .i) (entry .args .output .now) (omega (arith, entry .pre .0)) (at-loop .loop .inv .1) (at-number .number .ensures .0), omega (arith, at-number .number .ensures .1, at-loop .loop .inv .2))
 
 same-length : tie.Need-same-length Inv-loop μ-loop
 same-length c = c .before .loop .inv .1 .long
 
 returns : tie.Need-returns Inv-loop μ-loop
-returns c = (puts-all _ _ _ _ (c .before .loop .i) (c .before .before .before .before .args .count) (c .before .before .before .before .args .output .now) (omega (arith, c .loop-test .left, c .before .loop .inv .0)) (c .before .loop .inv .1), omega (arith, c .before .loop .inv .0, c .before .loop .inv .2))
+returns c =
+    let at-loop = c .before in
+    let entry = at-loop .before .before .before in
+    (puts-all _ _ _ _ (at-loop .loop .i) (entry .args .count) (entry .args .output .now) (omega (arith, c .loop-test .left, at-loop .loop .inv .0)) (at-loop .loop .inv .1), omega (arith, at-loop .loop .inv .0, at-loop .loop .inv .2))
 
 pub blocks-spec : {M : Type 1} → statement M
 blocks-spec =

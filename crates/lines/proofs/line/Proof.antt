@@ -20,7 +20,12 @@ same-length : tie.Need-same-length
 same-length c = search needs
 
 returns : tie.Need-returns
-returns c = (puts-line _ _ _ _ _ _ _ _ _ (c .before .before .before .before .before .before .before .before .before .before .before .before .before .before .args .answer ∷ c .before .before .before .before .before .before .before .before .before .before .before .before .before .before .args .found ∷ c .before .before .before .before .before .before .before .before .before .before .before .before .before .before .args .compares ∷ c .before .before .before .before .before .before .before .before .before .before .before .before .before .before .args .bits ∷ []) _ (c .before .before .before .before .before .before .before .before .before .before .report .ensures .0) (c .before .before .before .before .before .before .blocks2 .ensures .0) (c .before .before .push .ensures), omega (arith, c .before .before .before .before .before .before .before .before .before .before .report .ensures .1, c .before .before .before .before .before .before .blocks2 .ensures .1, c .before .before .push .ensures .place))
+returns c =
+    let at-push = c .before .before in
+    let at-blocks2 = at-push .before .before .before .before in
+    let at-report = at-blocks2 .before .before .before .before in
+    let entry = at-report .before .before .before .before in
+    (puts-line _ _ _ _ _ _ _ _ _ (entry .args .answer ∷ entry .args .found ∷ entry .args .compares ∷ entry .args .bits ∷ []) _ (at-report .report .ensures .0) (at-blocks2 .blocks2 .ensures .0) (at-push .push .ensures), omega (arith, at-report .report .ensures .1, at-blocks2 .blocks2 .ensures .1, at-push .push .ensures .place))
 
 pub line-spec : {M : Type 1} → statement M
 line-spec = tie.close (tie.spec report-requires blocks-requires push-requires same-length returns)

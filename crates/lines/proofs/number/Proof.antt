@@ -10,13 +10,20 @@ push-requires : tie.Need-push-requires
 push-requires c κs = search needs
 
 digits-requires : tie.Need-digits-requires
-digits-requires c κs = omega (arith, c .before .before .before .push .ensures .place, c .before .before .before .push .ensures .long, decimal-few _ (c .before .before .before .before .before .before .fits .n .fits), c .before .before .before .before .before .before .pre)
+digits-requires c κs =
+    let at-push = c .before .before .before in
+    let entry = at-push .before .before .before in
+    omega (arith, at-push .push .ensures .place, at-push .push .ensures .long, decimal-few _ (entry .fits .n .fits), entry .pre)
 
 same-length : tie.Need-same-length
 same-length c = search needs
 
 returns : tie.Need-returns
-returns c = (puts-as _ _ _ _ _ _ (spaced-one _) (puts-then _ _ _ _ _ _ _ _ (c .before .before .before .before .before .before .push .ensures) (c .before .before .digits .ensures)), omega (arith, c .before .before .before .before .before .before .push .ensures .place, c .before .before .digits .ensures .place, decimal-few _ (c .before .before .before .before .before .before .before .before .before .fits .n .fits)))
+returns c =
+    let at-digits = c .before .before in
+    let at-push = at-digits .before .before .before .before in
+    let entry = at-push .before .before .before in
+    (puts-as _ _ _ _ _ _ (spaced-one _) (puts-then _ _ _ _ _ _ _ _ (at-push .push .ensures) (at-digits .digits .ensures)), omega (arith, at-push .push .ensures .place, at-digits .digits .ensures .place, decimal-few _ (entry .fits .n .fits)))
 
 pub number-spec : {M : Type 1} → statement M
 number-spec = tie.close (tie.spec push-requires digits-requires same-length returns)

@@ -34,7 +34,10 @@ same-length-6 : tie.Need-same-length-6
 same-length-6 c = search needs
 
 returns : tie.Need-returns
-returns c = record { report = reported (c .before .before .before .before .before .before .before .before .before .before .before .before .before .before .before .before .carry-out .result .answer) (c .before .before .before .before .before .before .before .before .before .before .before .before .before .before .before .before .carry-out .result .found) (c .before .before .before .before .before .before .before .before .before .before .before .before .before .before .before .before .carry-out .result .compares) (c .before .before .before .before .before .before .before .before .before .before .before .before .before .before .before .before .carry-out .result .bits); gives = c .before .before .before .before .before .before .before .before .before .before .before .before .before .before .before .before .carry-out .ensures .0; puts = c .before .before .line .ensures .0; room = omega (arith, c .before .before .line .ensures .1, c .before .before .before .before .before .before .before .before .before .before .before .before .before .before .before .before .carry-out .ensures .1) }
+returns c =
+    let at-line = c .before .before in
+    let at-carry-out = at-line .before .before .before .before .before .before .before .before .before .before .before .before .before .before in
+    record { report = reported (at-carry-out .carry-out .result .answer) (at-carry-out .carry-out .result .found) (at-carry-out .carry-out .result .compares) (at-carry-out .carry-out .result .bits); gives = at-carry-out .carry-out .ensures .0; puts = at-line .line .ensures .0; room = omega (arith, at-line .line .ensures .1, at-carry-out .carry-out .ensures .1) }
 
 pub serve-one-spec : {M : Type 1} → statement M
 serve-one-spec =

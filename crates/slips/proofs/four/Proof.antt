@@ -58,7 +58,11 @@ add-result-3 : tie.Need-add-result-3
 add-result-3 c = search needs
 
 returns : tie.Need-returns
-returns c = let e = number-four _ _ _ _ _ _ (c .before .before .before .before .before .before .wide .ensures .0) (c .before .before .before .before .wide2 .ensures .0) (c .before .before .wide3 .ensures .0) (c .wide4 .ensures .0) in (e, omega (arith, c .before .before .before .before .before .before .wide .ensures .1, c .before .before .before .before .wide2 .ensures .1, c .before .before .wide3 .ensures .1, c .wide4 .ensures .1))
+returns c =
+    let at-wide3 = c .before .before in
+    let at-wide2 = at-wide3 .before .before in
+    let at-wide = at-wide2 .before .before in
+    let e = number-four _ _ _ _ _ _ (at-wide .wide .ensures .0) (at-wide2 .wide2 .ensures .0) (at-wide3 .wide3 .ensures .0) (c .wide4 .ensures .0) in (e, omega (arith, at-wide .wide .ensures .1, at-wide2 .wide2 .ensures .1, at-wide3 .wide3 .ensures .1, c .wide4 .ensures .1))
 
 pub four-spec : {M : Type 1} → statement M
 four-spec =

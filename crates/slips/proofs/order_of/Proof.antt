@@ -41,7 +41,11 @@ returns-3 : tie.Need-returns-3
 returns-3 c = reads-withdraw _ _ _ _ _ _ (c .before .match .keys3) (c .before .before .before .both .ensures) (c .unless-used3 .ensures)
 
 returns-4 : tie.Need-returns-4
-returns-4 c = reads-rebuild _ _ _ _ _ _ _ (c .before .before .match .keys4) (c .before .before .before .both2 .ensures) (c .before .both3 .ensures) (c .unless-used4 .ensures)
+returns-4 c =
+    let at-both3 = c .before in
+    let at-match = at-both3 .before in
+    let at-both2 = at-match .before in
+    reads-rebuild _ _ _ _ _ _ _ (at-match .match .keys4) (at-both2 .both2 .ensures) (at-both3 .both3 .ensures) (c .unless-used4 .ensures)
 
 returns-5 : tie.Need-returns-5
 returns-5 c = reads-search _ _ _ _ _ _ (c .before .match .keys5) (c .before .before .both2 .ensures) (c .unless-used5 .ensures)

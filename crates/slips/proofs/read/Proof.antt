@@ -25,7 +25,12 @@ order-of-requires : tie.Need-order-of-requires
 order-of-requires c κs = search needs
 
 returns-2 : tie.Need-returns-2
-returns-2 c = right-length _ _ _ _ _ _ (c .before .before .before .before .before .if1 .left) refl (c .before .before .before .reserved-zero .ensures) (c .before .before .four .ensures .0) (c .before .signature-field .ensures) (c .order-of .ensures)
+returns-2 c =
+    let at-signature-field = c .before in
+    let at-four = at-signature-field .before in
+    let at-reserved-zero = at-four .before in
+    let at-if1 = at-reserved-zero .before .before in
+    right-length _ _ _ _ _ _ (at-if1 .if1 .left) refl (at-reserved-zero .reserved-zero .ensures) (at-four .four .ensures .0) (at-signature-field .signature-field .ensures) (c .order-of .ensures)
 
 pub read-spec : {M : Type 1} → statement M
 read-spec =

@@ -38,7 +38,10 @@ add-result-2 : tie.Need-add-result-2
 add-result-2 c = search needs
 
 returns : tie.Need-returns
-returns c = ap (λ n. eqb n 0) (number-three _ 1 _ _ _ (c .before .before .before .before .wide .ensures .0) (c .before .before .wide2 .ensures .0) (c .wide3 .ensures .0))
+returns c =
+    let at-wide2 = c .before .before in
+    let at-wide = at-wide2 .before .before in
+    ap (λ n. eqb n 0) (number-three _ 1 _ _ _ (at-wide .wide .ensures .0) (at-wide2 .wide2 .ensures .0) (c .wide3 .ensures .0))
 
 pub reserved-zero-spec : {M : Type 1} → statement M
 reserved-zero-spec =

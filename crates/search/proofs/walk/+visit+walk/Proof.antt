@@ -83,7 +83,10 @@ visit-returns : Visit visit-lts.Need-returns
 visit-returns t c = c .before .before .leaf .ensures ∙ sym (walk-leaf _ _ _ _ _ _ _ (c .before .before .before .before .if1 .taken))
 
 visit-walk-requires : Visit visit-lts.Need-walk-requires
-visit-walk-requires t c κs = (omega (arith, c .before .before .before .before .before .pre .0), (c .before .before .before .before .before .pre .1, c .before .if1 .left))
+visit-walk-requires t c κs =
+    let at-if1 = c .before in
+    let entry = at-if1 .before .before .before .before in
+    (omega (arith, entry .pre .0), (entry .pre .1, at-if1 .if1 .left))
 
 visit-same-length-2 : Visit visit-lts.Need-same-length-2
 visit-same-length-2 t c = search needs
@@ -110,13 +113,22 @@ walk-edge-requires : Walk walk-lts.Need-edge-requires
 walk-edge-requires t c κs = search needs
 
 walk-returns-3 : Walk walk-lts.Need-returns-3
-walk-returns-3 t c = node-unfit _ _ _ _ _ _ _ (c .before .before .before .before .before .before .before .before .before .pre .1 .1) (over (c .before .before .before .before .nodes-in .ensures) (c .before .before .before .if2 .left)) _ (c .before .edge .ensures) (c .if3 .taken)
+walk-returns-3 t c =
+    let at-edge = c .before in
+    let at-if2 = at-edge .before .before in
+    let at-nodes-in = at-if2 .before in
+    let entry = at-nodes-in .before .before .before .before .before in
+    node-unfit _ _ _ _ _ _ _ (entry .pre .1 .1) (over (at-nodes-in .nodes-in .ensures) (at-if2 .if2 .left)) _ (at-edge .edge .ensures) (c .if3 .taken)
 
 walk-take-node-requires : Walk walk-lts.Need-take-node-requires
 walk-take-node-requires t c κs = over (c .before .before .before .before .nodes-in .ensures) (c .before .before .before .if2 .left)
 
 walk-side-of-requires : Walk walk-lts.Need-side-of-requires
-walk-side-of-requires t c κs = let f = c .before .before .edge .ensures .node (c .before .if3 .left) in (c .before .before .before .before .before .before .before .before .before .before .pre .1 .0 .long, f .0, omega arith)
+walk-side-of-requires t c κs =
+    let at-if3 = c .before in
+    let at-edge = at-if3 .before in
+    let entry = at-edge .before .before .before .before .before .before .before .before in
+    let f = at-edge .edge .ensures .node (at-if3 .if3 .left) in (entry .pre .1 .0 .long, f .0, omega arith)
 
 walk-sub-visit : Walk walk-lts.Need-sub-visit
 walk-sub-visit t c = search needs
@@ -128,10 +140,25 @@ walk-same-length : Walk walk-lts.Need-same-length
 walk-same-length t c = search needs
 
 walk-returns-4 : Walk walk-lts.Need-returns-4
-walk-returns-4 t c = node-right _ _ _ _ _ _ _ (c .before .before .before .before .before .before .before .before .before .before .before .before .before .before .before .before .pre .1 .1) (over (c .before .before .before .before .before .before .before .before .before .before .before .nodes-in .ensures) (c .before .before .before .before .before .before .before .before .before .before .if2 .left)) _ (c .before .before .before .before .before .before .before .before .edge .ensures) (c .before .before .before .before .before .before .before .before .before .before .before .before .if1 .left) (c .before .before .before .before .before .before .before .if3 .left) _ (c .before .before .before .before .before .before .take-node .ensures) _ (c .before .before .before .before .before .side-of .ensures) (c .before .before .before .before .if4 .taken) _ (c .before .before .visit .ensures)
+walk-returns-4 t c =
+    let at-visit = c .before .before in
+    let at-if4 = at-visit .before .before in
+    let at-side-of = at-if4 .before in
+    let at-take-node = at-side-of .before in
+    let at-if3 = at-take-node .before in
+    let at-edge = at-if3 .before in
+    let at-if2 = at-edge .before .before in
+    let at-nodes-in = at-if2 .before in
+    let at-if1 = at-nodes-in .before in
+    let entry = at-if1 .before .before .before .before in
+    node-right _ _ _ _ _ _ _ (entry .pre .1 .1) (over (at-nodes-in .nodes-in .ensures) (at-if2 .if2 .left)) _ (at-edge .edge .ensures) (at-if1 .if1 .left) (at-if3 .if3 .left) _ (at-take-node .take-node .ensures) _ (at-side-of .side-of .ensures) (at-if4 .if4 .taken) _ (at-visit .visit .ensures)
 
 walk-side-of-requires-2 : Walk walk-lts.Need-side-of-requires-2
-walk-side-of-requires-2 t c κs = let f = c .before .before .before .before .edge .ensures .node (c .before .before .before .if3 .left) in (c .before .before .before .before .before .before .before .before .before .before .before .before .pre .1 .0 .long, f .0, omega arith)
+walk-side-of-requires-2 t c κs =
+    let at-if3 = c .before .before .before in
+    let at-edge = at-if3 .before in
+    let entry = at-edge .before .before .before .before .before .before .before .before in
+    let f = at-edge .edge .ensures .node (at-if3 .if3 .left) in (entry .pre .1 .0 .long, f .0, omega arith)
 
 walk-sub-visit-2 : Walk walk-lts.Need-sub-visit-2
 walk-sub-visit-2 t c = search needs
@@ -149,7 +176,20 @@ walk-same-length-2 : Walk walk-lts.Need-same-length-2
 walk-same-length-2 t c = search needs
 
 walk-returns-5 : Walk walk-lts.Need-returns-5
-walk-returns-5 t c = node-both _ _ _ _ _ _ _ (c .before .before .before .before .before .before .before .before .before .before .before .before .before .before .before .before .before .before .before .before .before .pre .1 .1) (over (c .before .before .before .before .before .before .before .before .before .before .before .before .before .before .before .before .nodes-in .ensures) (c .before .before .before .before .before .before .before .before .before .before .before .before .before .before .before .if2 .left)) _ (c .before .before .before .before .before .before .before .before .before .before .before .before .before .edge .ensures) (c .before .before .before .before .before .before .before .before .before .before .before .before .before .before .before .before .before .if1 .left) (c .before .before .before .before .before .before .before .before .before .before .before .before .if3 .left) _ (c .before .before .before .before .before .before .before .before .before .before .before .take-node .ensures) _ (c .before .before .before .before .before .before .before .before .before .before .side-of .ensures) (c .before .before .before .before .before .before .before .before .before .if4 .left) _ (c .before .before .before .before .before .before .before .before .side-of2 .ensures) _ _ (c .before .before .before .before .before .before .visit2 .ensures) _ (c .before .before .visit3 .ensures)
+walk-returns-5 t c =
+    let at-visit3 = c .before .before in
+    let at-visit2 = at-visit3 .before .before .before .before in
+    let at-side-of2 = at-visit2 .before .before in
+    let at-if4 = at-side-of2 .before in
+    let at-side-of = at-if4 .before in
+    let at-take-node = at-side-of .before in
+    let at-if3 = at-take-node .before in
+    let at-edge = at-if3 .before in
+    let at-if2 = at-edge .before .before in
+    let at-nodes-in = at-if2 .before in
+    let at-if1 = at-nodes-in .before in
+    let entry = at-if1 .before .before .before .before in
+    node-both _ _ _ _ _ _ _ (entry .pre .1 .1) (over (at-nodes-in .nodes-in .ensures) (at-if2 .if2 .left)) _ (at-edge .edge .ensures) (at-if1 .if1 .left) (at-if3 .if3 .left) _ (at-take-node .take-node .ensures) _ (at-side-of .side-of .ensures) (at-if4 .if4 .left) _ (at-side-of2 .side-of2 .ensures) _ _ (at-visit2 .visit2 .ensures) _ (at-visit3 .visit3 .ensures)
 
 pub +visit+walk-spec : {M : Type 1} → statement M
 +visit+walk-spec = close μ-visit μ-walk (λ t. visit-lts.spec (visit-calls t) (visit-at t) visit.Post

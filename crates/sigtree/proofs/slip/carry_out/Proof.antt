@@ -59,7 +59,10 @@ search-requires : tie.Need-search-requires
 search-requires c κs = search needs
 
 returns : tie.Need-returns
-returns c = done-bare _ _ _ _ _ _ (sym (ap readingOf (c .before .before .order .given .1)) ∙ c .before .before .before .before .read .ensures) (c .answered .ensures) (refl, refl)
+returns c =
+    let at-order = c .before .before in
+    let at-read = at-order .before .before in
+    done-bare _ _ _ _ _ _ (sym (ap readingOf (at-order .order .given .1)) ∙ at-read .read .ensures) (c .answered .ensures) (refl, refl)
 
 same-length : tie.Need-same-length
 same-length c = search needs
@@ -68,7 +71,11 @@ same-length-2 : tie.Need-same-length-2
 same-length-2 c = search needs
 
 returns-2 : tie.Need-returns-2
-returns-2 c = done-bare _ _ _ _ _ _ (sym (ap readingOf (c .before .before .before .before .before .before .before .before .before .order2 .given .1)) ∙ c .before .before .before .before .before .before .before .before .before .before .before .read .ensures) (c .answered2 .ensures) (c .before .before .before .before .before .clear .ensures, tables-only _ _ _ _ _ _)
+returns-2 c =
+    let at-clear = c .before .before .before .before .before in
+    let at-order2 = at-clear .before .before .before .before in
+    let at-read = at-order2 .before .before in
+    done-bare _ _ _ _ _ _ (sym (ap readingOf (at-order2 .order2 .given .1)) ∙ at-read .read .ensures) (c .answered2 .ensures) (at-clear .clear .ensures, tables-only _ _ _ _ _ _)
 
 same-length-3 : tie.Need-same-length-3
 same-length-3 c = search needs
@@ -77,7 +84,11 @@ same-length-4 : tie.Need-same-length-4
 same-length-4 c = search needs
 
 returns-3 : tie.Need-returns-3
-returns-3 c = done-bare _ _ _ _ _ _ (sym (ap readingOf (c .before .before .before .before .before .before .before .before .before .order3 .given .1)) ∙ c .before .before .before .before .before .before .before .before .before .before .before .read .ensures) (c .answered3 .ensures) (c .before .before .before .before .before .file .ensures, tables-only _ _ _ _ _ _)
+returns-3 c =
+    let at-file = c .before .before .before .before .before in
+    let at-order3 = at-file .before .before .before .before in
+    let at-read = at-order3 .before .before in
+    done-bare _ _ _ _ _ _ (sym (ap readingOf (at-order3 .order3 .given .1)) ∙ at-read .read .ensures) (c .answered3 .ensures) (at-file .file .ensures, tables-only _ _ _ _ _ _)
 
 same-length-5 : tie.Need-same-length-5
 same-length-5 c = search needs
@@ -86,7 +97,11 @@ same-length-6 : tie.Need-same-length-6
 same-length-6 c = search needs
 
 returns-4 : tie.Need-returns-4
-returns-4 c = done-bare _ _ _ _ _ _ (sym (ap readingOf (c .before .before .before .before .before .before .before .before .before .order4 .given .1)) ∙ c .before .before .before .before .before .before .before .before .before .before .before .read .ensures) (c .answered4 .ensures) (c .before .before .before .before .before .withdraw .ensures, tables-only _ _ _ _ _ _)
+returns-4 c =
+    let at-withdraw = c .before .before .before .before .before in
+    let at-order4 = at-withdraw .before .before .before .before in
+    let at-read = at-order4 .before .before in
+    done-bare _ _ _ _ _ _ (sym (ap readingOf (at-order4 .order4 .given .1)) ∙ at-read .read .ensures) (c .answered4 .ensures) (at-withdraw .withdraw .ensures, tables-only _ _ _ _ _ _)
 
 same-length-7 : tie.Need-same-length-7
 same-length-7 c = search needs
@@ -98,7 +113,11 @@ same-length-9 : tie.Need-same-length-9
 same-length-9 c = search needs
 
 returns-5 : tie.Need-returns-5
-returns-5 c = done-bare _ _ _ _ _ _ (sym (ap readingOf (c .before .before .before .before .before .before .before .before .before .enum-told .given .1)) ∙ c .before .before .before .before .before .before .before .before .before .before .before .read .ensures) (c .answered5 .ensures) (c .before .before .before .before .before .rebuild .ensures, links-only _ _ _ _ _ _ _ _)
+returns-5 c =
+    let at-rebuild = c .before .before .before .before .before in
+    let at-enum-told = at-rebuild .before .before .before .before in
+    let at-read = at-enum-told .before .before in
+    done-bare _ _ _ _ _ _ (sym (ap readingOf (at-enum-told .enum-told .given .1)) ∙ at-read .read .ensures) (c .answered5 .ensures) (at-rebuild .rebuild .ensures, links-only _ _ _ _ _ _ _ _)
 
 same-length-10 : tie.Need-same-length-10
 same-length-10 c = search needs
@@ -113,7 +132,11 @@ same-length-13 : tie.Need-same-length-13
 same-length-13 c = search needs
 
 returns-6 : tie.Need-returns-6
-returns-6 c = done _ _ _ _ _ (sym (ap readingOf (c .before .before .before .before .before .before .before .before .before .before .order5 .given .1)) ∙ c .before .before .before .before .before .before .before .before .before .before .before .before .read .ensures) (c .before .before .before .before .search .ensures, work-only _ _ _ _ _ _ _)
+returns-6 c =
+    let at-search = c .before .before .before .before in
+    let at-order5 = at-search .before .before .before .before .before .before in
+    let at-read = at-order5 .before .before in
+    done _ _ _ _ _ (sym (ap readingOf (at-order5 .order5 .given .1)) ∙ at-read .read .ensures) (at-search .search .ensures, work-only _ _ _ _ _ _ _)
 
 pub carry-out-spec : {M : Type 1} → statement M
 carry-out-spec =
