@@ -1,4 +1,4 @@
--- The two limits of document 01, named once: nothing else in the definitions knows these numbers.
+-- The two limits of the index (document 01), named once: nothing else in the definitions knows these numbers. Those of texts stand in Words.antt.
 -- Assumes nothing.
 use Prim.Native.Nat.{ℕ}
 
