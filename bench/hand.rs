@@ -1,6 +1,7 @@
 //! What the library is measured beside: a linear scan, and the same tree search, filing, withdrawing and rebuilding hand-written with
 //! no index checked. Neither asks any question, and both trust the tables: they are the most that a careful programmer could save.
 
+#[derive(PartialEq)]
 pub struct Counts {
     pub found: u32,
     pub compares: u32,
@@ -34,34 +35,81 @@ impl Walk {
         *self.links.add(at) as usize
     }
 
+    unsafe fn leaf(&mut self, head: usize) {
+        self.counts.compares += 1;
+        if *self.signatures.add(head - 1) & self.query == self.query {
+            let mut b = head;
+            while b != 0 {
+                *self.marks.add(b - 1) = 1;
+                self.counts.found += 1;
+                b = self.word(2 * b + 3);
+            }
+        }
+    }
+
+    /// The subtree at a reference, as one recursive function.
     unsafe fn visit(&mut self, reference: usize) {
         if reference <= self.blocks {
-            self.counts.compares += 1;
-            if *self.signatures.add(reference - 1) & self.query == self.query {
-                let mut b = reference;
-                while b != 0 {
-                    *self.marks.add(b - 1) = 1;
-                    self.counts.found += 1;
-                    b = self.word(2 * b + 3);
-                }
-            }
-            return;
+            return self.leaf(reference);
         }
         self.counts.bits += 1;
         let row = 2 * self.blocks + 3 * (reference - self.blocks) + 2;
-        let position = *self.links.add(row);
-        if (self.query >> (self.width - position)) & 1 == 0 {
+        if (self.query >> (self.width - *self.links.add(row))) & 1 == 0 {
             self.visit(self.word(row + 1));
         }
         self.visit(self.word(row + 2))
     }
+
+    /// The same with a leaf told before the call, which then costs none: the shape of the library's walk.
+    #[inline(always)]
+    unsafe fn side(&mut self, reference: usize) {
+        if reference <= self.blocks {
+            self.leaf(reference)
+        } else {
+            self.node(reference)
+        }
+    }
+
+    unsafe fn node(&mut self, reference: usize) {
+        self.counts.bits += 1;
+        let row = 2 * self.blocks + 3 * (reference - self.blocks) + 2;
+        if (self.query >> (self.width - *self.links.add(row))) & 1 == 0 {
+            self.side(self.word(row + 1));
+        }
+        self.side(self.word(row + 2))
+    }
 }
 
-/// The tree search.
+/// Lists the marked blocks of a part, until found are listed.
+unsafe fn list_part(marks: &[u8], output: &mut [u32], part: std::ops::Range<usize>, mut listed: usize, found: usize) -> usize {
+    for b in part {
+        if listed == found {
+            break;
+        }
+        *output.get_unchecked_mut(listed) = b as u32 + 1;
+        listed += (*marks.get_unchecked(b) == 1) as usize;
+    }
+    listed
+}
+
+/// Lists the marked blocks, passing over runs of 64 that have none.
+unsafe fn list(marks: &[u8], output: &mut [u32], blocks: usize, found: usize) {
+    let (mut listed, mut b) = (0, 0);
+    while listed < found && b + 64 <= blocks {
+        let run = &*(marks.as_ptr().add(b) as *const [u8; 64]);
+        if run.iter().fold(0, |any, m| any | m) != 0 {
+            listed = list_part(marks, output, b..b + 64, listed, found);
+        }
+        b += 64;
+    }
+    list_part(marks, output, b..blocks, listed, found);
+}
+
+/// The tree search, by one recursive function or with leaves told before the call.
 ///
 /// # Safety
 /// The tables are sound, and the marks and the output at least as long as the signatures.
-pub unsafe fn search(signatures: &[u64], links: &[u32], query: u64, marks: &mut [u8], output: &mut [u32]) -> Counts {
+pub unsafe fn search<const LEAF_FIRST: bool>(signatures: &[u64], links: &[u32], query: u64, marks: &mut [u8], output: &mut [u32]) -> Counts {
     let blocks = signatures.len();
     marks[..blocks].fill(0);
     let mut walk = Walk {
@@ -73,24 +121,12 @@ pub unsafe fn search(signatures: &[u64], links: &[u32], query: u64, marks: &mut 
         query,
         counts: Counts { found: 0, compares: 0, bits: 0 },
     };
-    if links[2] != 0 {
-        walk.visit(links[2] as usize);
+    match links[2] as usize {
+        0 => (),
+        root if LEAF_FIRST => walk.side(root),
+        root => walk.visit(root),
     }
-    let (mut n, found) = (0, walk.counts.found as usize);
-    let mut b = 0;
-    while n < found {
-        let end = (b + 64).min(blocks);
-        if marks.get_unchecked(b..end).iter().fold(0, |any, m| any | m) != 0 {
-            for at in b..end {
-                if n == found {
-                    break;
-                }
-                *output.get_unchecked_mut(n) = at as u32 + 1;
-                n += (*marks.get_unchecked(at) == 1) as usize;
-            }
-        }
-        b = end;
-    }
+    list(marks, output, blocks, walk.counts.found as usize);
     walk.counts
 }
 

@@ -78,8 +78,8 @@ impl Index {
         assert_eq!(answer, 0);
         c
     }
-    fn hand(&mut self, q: u64) -> hand::Counts {
-        unsafe { hand::search(&self.signatures, &self.links, q, &mut self.marks, &mut self.output) }
+    fn hand<const LEAF_FIRST: bool>(&mut self, q: u64) -> hand::Counts {
+        unsafe { hand::search::<LEAF_FIRST>(&self.signatures, &self.links, q, &mut self.marks, &mut self.output) }
     }
     fn scan(&mut self, q: u64) -> u32 {
         hand::scan(&self.signatures, &self.links, q, &mut self.marks, &mut self.output)
@@ -97,6 +97,11 @@ fn least(turns: usize, mut work: impl FnMut()) -> f64 {
         .fold(f64::INFINITY, f64::min)
 }
 
+/// One turn over the queries, in nanoseconds.
+fn each(queries: &[u64], mut search: impl FnMut(u64)) -> f64 {
+    least(1, || queries.iter().for_each(|&q| search(q)))
+}
+
 fn searches(name: &str, tree: &str, x: &mut Index, rng: &mut Rng) {
     let distinct = {
         let mut s = x.signatures.clone();
@@ -105,7 +110,7 @@ fn searches(name: &str, tree: &str, x: &mut Index, rng: &mut Rng) {
         s.len()
     };
     for k in [0, 1, 2, 4, 8, 16, 24, 32] {
-        let turns = if x.signatures.len() > 10_000 { 7 } else { 15 };
+        let turns = if x.signatures.len() > 10_000 { 7 } else { 200 };
         let queries: Vec<u64> = (0..16)
             .map(|_| {
                 let from = x.signatures[(rng.next() % x.signatures.len() as u64) as usize];
@@ -114,27 +119,24 @@ fn searches(name: &str, tree: &str, x: &mut Index, rng: &mut Rng) {
             .collect();
         let (mut compares, mut found) = (0u64, 0u64);
         for &q in &queries {
-            let (a, b, n) = (x.search(q), x.hand(q), x.scan(q));
-            assert!(a.found == b.found && a.found == n && a.compares == b.compares && a.bits == b.bits);
+            let (a, b, c, n) = (x.search(q), x.hand::<false>(q), x.hand::<true>(q), x.scan(q));
+            assert!(a == b && a == c && a.found == n);
             compares += a.compares as u64;
             found += a.found as u64;
         }
-        let (mut ours, mut by_hand, mut by_scan) = (f64::INFINITY, f64::INFINITY, f64::INFINITY);
+        let [mut ours, mut by_hand, mut leaf_first, mut by_scan] = [f64::INFINITY; 4];
         for _ in 0..turns {
-            ours = ours.min(least(1, || queries.iter().for_each(|&q| {
-                black_box(x.search(q));
-            })));
-            by_hand = by_hand.min(least(1, || queries.iter().for_each(|&q| {
-                black_box(x.hand(q));
-            })));
-            by_scan = by_scan.min(least(1, || queries.iter().for_each(|&q| {
+            ours = ours.min(each(&queries, |q| drop(black_box(x.search(q)))));
+            by_hand = by_hand.min(each(&queries, |q| drop(black_box(x.hand::<false>(q)))));
+            leaf_first = leaf_first.min(each(&queries, |q| drop(black_box(x.hand::<true>(q)))));
+            by_scan = by_scan.min(each(&queries, |q| {
                 black_box(x.scan(q));
-            })));
+            }));
         }
         let n = queries.len() as f64;
         println!(
-            "| {name} | {tree} | {distinct} | {k} | {:.0} | {:.0} | {:.1} | {:.2} | {:.2} |",
-            found as f64 / n, compares as f64 / n, ours / n / 1000.0, ours / by_hand, ours / by_scan
+            "| {name} | {tree} | {distinct} | {k} | {:.0} | {:.0} | {:.1} | {:.2} | {:.2} | {:.2} |",
+            found as f64 / n, compares as f64 / n, ours / n / 1000.0, ours / by_hand, ours / leaf_first, ours / by_scan
         );
     }
 }
@@ -148,8 +150,8 @@ fn growth(n: usize, rng: &mut Rng) {
     let compares: u64 = queries.iter().map(|&q| x.search(q).compares as u64).sum();
     let (mut ours, mut by_hand) = (f64::INFINITY, f64::INFINITY);
     for _ in 0..9 {
-        ours = ours.min(least(1, || queries.iter().for_each(|&q| drop(black_box(x.search(q))))));
-        by_hand = by_hand.min(least(1, || queries.iter().for_each(|&q| drop(black_box(x.hand(q))))));
+        ours = ours.min(each(&queries, |q| drop(black_box(x.search(q)))));
+        by_hand = by_hand.min(each(&queries, |q| drop(black_box(x.hand::<false>(q)))));
     }
     let (a, c) = (ours / queries.len() as f64, compares as f64 / queries.len() as f64);
     println!("| {n} | {c:.0} | {:.1} | {:.1} | {:.2} |", a / 1000.0, a / c, ours / by_hand);
@@ -199,8 +201,8 @@ fn main() {
     let clock: Vec<u64> = (0..65535).map(|_| kinds[(rng.next() % 1000) as usize]).collect();
     stores.push(("clock-like, B 65535".into(), clock));
 
-    println!("| store | tree | distinct | bits set | found | compares | us a search | to hand-written | to linear scan |");
-    println!("|---|---|---|---|---|---|---|---|---|");
+    println!("| store | tree | distinct | bits set | found | compares | us a search | to hand-written | to leaf-first | to linear scan |");
+    println!("|---|---|---|---|---|---|---|---|---|---|");
     for (name, signatures) in &stores {
         let mut x = Index::filed(signatures);
         searches(name, "as filed", &mut x, &mut rng);

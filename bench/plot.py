@@ -11,8 +11,8 @@ SERIES = (('library', '#1b6ca8', lambda us, hand, scan: us), ('hand-written', '#
 def rows():
     for line in sys.stdin:
         cells = [c.strip() for c in line.split('|')[1:-1]]
-        if len(cells) == 9 and cells[1] == 'rebuilt' and 'weight 32, B 65535' in cells[0]:
-            yield float(cells[5]), float(cells[6]), float(cells[7]), float(cells[8])
+        if len(cells) == 10 and cells[1] == 'rebuilt' and 'weight 32, B 65535' in cells[0]:
+            yield float(cells[5]), float(cells[6]), float(cells[7]), float(cells[9])
 
 
 def main():

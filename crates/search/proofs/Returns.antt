@@ -18,9 +18,9 @@ use Rattle.signature.proofs.Covering.{and-test}
 use Rattle.tables.specs.Walk.{EdgeOf}
 use Rattle.search.specs.Budget.{Budget, unfit, lent}
 use Rattle.search.specs.Marks.{mark, listed, cleared}
-use Rattle.search.specs.Search.{mayMark, chainTwin, leafTwin, testedAt, walkTwin, foundTwin}
+use Rattle.search.specs.Search.{Sized, mayMark, chainTwin, leafTwin, testedAt, walkTwin, foundTwin}
 use Rattle.search.proofs.Steps.{chain-mark, leaf-passed, leaf-chain, walk-no-node, walk-right, walk-both, found-empty, found-unfit, found-list}
-use Rattle.search.proofs.Marks.{Went}
+use Rattle.search.proofs.Marks.{Went, walk-went}
 use Rattle.search.proofs.Any.{walk-from-cleared, grown-found}
 
 -- the AND of a signature, as it was read, and the query
@@ -86,6 +86,16 @@ module _ (sigs links : List ℕ) (q r u : ℕ) (l : Budget) (m : List ℕ) (lt :
         let p = E .node le .1 in
         let z : eqb (bitAt (widthOf links) q (positionOf (length sigs) links (r - length sigs))) 1 ≡ false = ne-eqb _ _ (λ d. two (E .bit le ∙ d)) in
         g ∙ (rw ey (sym (walk-both sigs links q r l m lt u nu h _ (test-is sigs links q (r - length sigs) e E le) (omega arith) l′ e′ z a m₁ (rw ex at f))))
+
+-- marks that come back as they were handed on
+pub marks-back : (l : Budget) (m m′ : List ℕ) (o : Budget × List ℕ) → m′ ≡ m → (l, m) ≡ o → (l, m′) ≡ o
+marks-back l m m′ o e d = rw e d
+
+-- a walk keeps the marks' length, so what stood beside them fits them still
+pub still-sized : (sigs links : List ℕ) (q u r : ℕ) (l l′ : Budget) (m m′ : List ℕ) → Sized sigs links m q → (l′, m′) ≡ walkTwin u sigs links q r l m → Sized sigs links m′ q
+still-sized sigs links q u r l l′ m m′ s e =
+    let as-long : length m′ ≡ length m = ap (λ (o : Budget × List ℕ). length (o .1)) e ∙ walk-went sigs links q u r l m (s .room) .grown .long in
+    record { few = s .few; long = s .long; room = omega (arith, s .room); wide = s .wide; low = s .low }
 
 -- a search that no question refuses: z is the cleared marks, l₀ what is lent, w what the walk leaves
 module _ (sigs links : List ℕ) (q : ℕ) (m out z : List ℕ) (c : z ≡ cleared (length sigs) m) (o : Report) where

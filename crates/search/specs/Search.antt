@@ -7,6 +7,7 @@ use mathlib.Core.Bool.{Bool, true, false}
 use mathlib.Core.List.{List}
 use lib.Dec.{eqb, leb, ltb}
 use lib.ListN.{length}
+use denote.Ref.{RefT}
 use Rattle.model.specs.Limits.{widest, mostBlocks}
 use Rattle.model.specs.Signature.{bitAt, coversb}
 use Rattle.model.specs.Tables.{linksOf, widthOf, rootOf, nextOf, filedOf, positionOf, leftOf, rightOf, signatureOf}
@@ -27,6 +28,10 @@ pub record Sized (sigs links marks : List ℕ) (q : ℕ) : Type 0 where
   pub room : length sigs ≤ length marks
   pub wide : widthOf links ≤ widest
   pub low : q < 2 ^ widthOf links
+
+-- two references are one loan: what was lent behind the one comes back from behind the other
+abbrev pub SameLoan : {X : Type 0} → RefT X → RefT X → Type 0
+SameLoan a b = a .name ≡ b .name
 
 -- block b may be marked: it is 1 to B, filed, not yet marked, and its signature covers q
 unfoldable pub mayMark : List ℕ → List ℕ → ℕ → ℕ → List ℕ → Bool

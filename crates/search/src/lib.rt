@@ -89,7 +89,7 @@ fn find(
     if root == 0 {
         return no_list(0);
     }
-    let left = walk::visit(
+    let left = walk::walk_tree(
         signatures,
         links,
         marks,

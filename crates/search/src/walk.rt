@@ -4,7 +4,7 @@ ghost use mathlib.Core.Path.{_≡_};
 ghost use Prim.Native.Nat.{_≤_, _<_};
 ghost use lib.ListN.{length};
 ghost use Rattle.search.specs.Budget.{budgetOf};
-ghost use Rattle.search.specs.Search.{Sized, mayMark, chainTwin, leafTwin, walkTwin};
+ghost use Rattle.search.specs.Search.{Sized, SameLoan, mayMark, chainTwin, leafTwin, walkTwin};
 use crate::budget;
 use crate::marking;
 
@@ -84,37 +84,38 @@ pub fn leaf(
     mark_chain(signatures, links, marks, query, head, rest)
 }
 
-// The subtree at a reference: a leaf, or a node. It is short, so that a leaf costs no call.
-pub fn visit(
-    signatures: &[u64],
-    links: &[u32],
-    marks: &mut [u8],
+// The subtree at a side of a node: a leaf, or a node. It is short, so that a leaf costs no call.
+fn visit(
+    signatures: &&[u64],
+    links: &&[u32],
+    marks: &mut &mut [u8],
     query: u64,
     reference: u32,
     untested: u32,
     left: u64,
 ) -> u64
-    requires { ⌜ Sized (now signatures) (now links) (now marks) query ⌝ }
-    ensures { λ r. ⌜ (budgetOf r, now (marks .exit)) ≡ walkTwin untested (now (signatures .entry)) (now (links .entry)) query reference (budgetOf left) (now (marks .entry)) ⌝ }
+    requires { ⌜ Sized (now (now signatures)) (now (now links)) (now (now marks)) query ⌝ }
+    ensures { λ r. ⌜ SameLoan (now (marks .exit)) (now (marks .entry)) × ((budgetOf r, now (now (marks .exit))) ≡ walkTwin untested (now (now (signatures .entry))) (now (now (links .entry))) query reference (budgetOf left) (now (now (marks .entry)))) ⌝ }
 {
     if reference as usize <= signatures.len() {
-        return leaf(signatures, links, marks, query, reference, left);
+        return leaf(*signatures, *links, *marks, query, reference, left);
     }
     walk(signatures, links, marks, query, reference, untested, left)
 }
 
-// The subtree at a node: the sides that the query visits.
-pub fn walk(
-    signatures: &[u64],
-    links: &[u32],
-    marks: &mut [u8],
+// The subtree at a node: the sides that the query visits. The slices stand behind references, so that no call copies them and the last
+// call is a jump.
+fn walk(
+    signatures: &&[u64],
+    links: &&[u32],
+    marks: &mut &mut [u8],
     query: u64,
     reference: u32,
     untested: u32,
     left: u64,
 ) -> u64
-    requires { ⌜ Sized (now signatures) (now links) (now marks) query × (length (now signatures) < reference) ⌝ }
-    ensures { λ r. ⌜ (budgetOf r, now (marks .exit)) ≡ walkTwin untested (now (signatures .entry)) (now (links .entry)) query reference (budgetOf left) (now (marks .entry)) ⌝ }
+    requires { ⌜ Sized (now (now signatures)) (now (now links)) (now (now marks)) query × (length (now (now signatures)) < reference) ⌝ }
+    ensures { λ r. ⌜ SameLoan (now (marks .exit)) (now (marks .entry)) × ((budgetOf r, now (now (marks .exit))) ≡ walkTwin untested (now (now (signatures .entry))) (now (now (links .entry))) query reference (budgetOf left) (now (now (marks .entry)))) ⌝ }
 {
     let blocks = signatures.len();
     if untested == 0 {
@@ -124,16 +125,56 @@ pub fn walk(
         return budget::UNFIT;
     }
     let node = reference as usize - blocks;
-    let side = tables::walk::edge(links, blocks, links[0], query, node);
+    let side = tables::walk::edge(*links, blocks, links[0], query, node);
     if 1 < side {
         return budget::UNFIT;
     }
     let below = budget::take_node(left);
-    let right = tables::nodes::side_of(links, blocks, node, 1);
+    let right = tables::nodes::side_of(*links, blocks, node, 1);
     if side == 1 {
         return visit(signatures, links, marks, query, right, untested - 1, below);
     }
-    let first = tables::nodes::side_of(links, blocks, node, 0);
+    let first = tables::nodes::side_of(*links, blocks, node, 0);
     let rest = visit(signatures, links, marks, query, first, untested - 1, below);
     visit(signatures, links, marks, query, right, untested - 1, rest)
+}
+
+// The tree at a root that is a node. The marks are taken and handed back: what is behind a reference to them is theirs for the walk.
+fn walk_root<'a>(
+    signatures: &[u64],
+    links: &[u32],
+    marks: &'a mut [u8],
+    query: u64,
+    root: u32,
+    untested: u32,
+    left: &mut u64,
+) -> &'a mut [u8]
+    requires { ⌜ Sized (now signatures) (now links) (now marks) query × (length (now signatures) < root) ⌝ }
+    ensures { λ r. ⌜ SameLoan r (marks .entry) × ((budgetOf (now (left .exit)), now r) ≡ walkTwin untested (now (signatures .entry)) (now (links .entry)) query root (budgetOf (now (left .entry))) (now (marks .entry))) ⌝ }
+{
+    let mut lent = marks;
+    *left = walk(&signatures, &links, &mut lent, query, root, untested, *left);
+    let back = lent;
+    back
+}
+
+// The whole tree, from its root.
+pub fn walk_tree(
+    signatures: &[u64],
+    links: &[u32],
+    marks: &mut [u8],
+    query: u64,
+    root: u32,
+    untested: u32,
+    left: u64,
+) -> u64
+    requires { ⌜ Sized (now signatures) (now links) (now marks) query ⌝ }
+    ensures { λ r. ⌜ (budgetOf r, now (marks .exit)) ≡ walkTwin untested (now (signatures .entry)) (now (links .entry)) query root (budgetOf left) (now (marks .entry)) ⌝ }
+{
+    if root as usize <= signatures.len() {
+        return leaf(signatures, links, marks, query, root, left);
+    }
+    let mut rest = left;
+    walk_root(signatures, links, marks, query, root, untested, &mut rest);
+    rest
 }

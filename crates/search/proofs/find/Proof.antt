@@ -24,16 +24,16 @@ same-length c = search needs
 returns : tie.Need-returns
 returns c = find-empty _ _ _ _ _ _ (c .before .before .before .before .before .clear-marks .ensures) _ (c .no-list .ensures) (c .before .if1 .taken)
 
-shared-slice-read-visit : tie.Need-shared-slice-read-visit
-shared-slice-read-visit c =
+shared-slice-read-walk-tree : tie.Need-shared-slice-read-walk-tree
+shared-slice-read-walk-tree c =
     let entry = c .before .before .before .before .before .before .before .before .before .before .before .before in
     omega (arith, entry .pre .0 .long, entry .pre .1 .0)
 
 lend-requires : tie.Need-lend-requires
 lend-requires c κs = search needs
 
-visit-requires : tie.Need-visit-requires
-visit-requires c κs = search needs
+walk-tree-requires : tie.Need-walk-tree-requires
+walk-tree-requires c κs = search needs
 
 nodes-in-requires : tie.Need-nodes-in-requires
 nodes-in-requires c κs = search needs
@@ -48,11 +48,11 @@ returns-2 : tie.Need-returns-2
 returns-2 c =
     let at-if2 = c .before in
     let at-nodes-in = at-if2 .before in
-    let at-visit = at-nodes-in .before .before .before in
-    let at-lend = at-visit .before in
+    let at-walk-tree = at-nodes-in .before .before .before in
+    let at-lend = at-walk-tree .before in
     let at-if1 = at-lend .before .before .before in
     let at-clear-marks = at-if1 .before .before .before .before in
-    find-unfit _ _ _ _ _ _ (at-clear-marks .clear-marks .ensures) _ _ (at-lend .lend .ensures) _ _ (at-visit .visit .ensures) (c .no-list2 .ensures) (at-if1 .if1 .left) (sym (at-nodes-in .nodes-in .ensures) ∙ at-if2 .if2 .taken)
+    find-unfit _ _ _ _ _ _ (at-clear-marks .clear-marks .ensures) _ _ (at-lend .lend .ensures) _ _ (at-walk-tree .walk-tree .ensures) (c .no-list2 .ensures) (at-if1 .if1 .left) (sym (at-nodes-in .nodes-in .ensures) ∙ at-if2 .if2 .taken)
 
 blocks-in-requires : tie.Need-blocks-in-requires
 blocks-in-requires c κs = search needs
@@ -61,12 +61,12 @@ used-requires : tie.Need-used-requires
 used-requires c κs =
     let at-if2 = c .before in
     let at-nodes-in = at-if2 .before in
-    let at-visit = at-nodes-in .before .before .before in
-    let at-lend = at-visit .before in
+    let at-walk-tree = at-nodes-in .before .before .before in
+    let at-lend = at-walk-tree .before in
     let at-clear-marks = at-lend .before .before .before .before .before .before .before in
     let entry = at-clear-marks .before .before .before .before .before .before in
     let a = entry .args in
-    let f = walk-found (a .signatures .now) (a .links .now) (a .query) (a .marks .now) _ (at-clear-marks .clear-marks .ensures) _ (at-lend .lend .ensures) _ _ (at-visit .visit .ensures) (entry .pre .0 .room) (λ z. at-if2 .if2 .left (at-nodes-in .nodes-in .ensures ∙ z)) in
+    let f = walk-found (a .signatures .now) (a .links .now) (a .query) (a .marks .now) _ (at-clear-marks .clear-marks .ensures) _ (at-lend .lend .ensures) _ _ (at-walk-tree .walk-tree .ensures) (entry .pre .0 .room) (λ z. at-if2 .if2 .left (at-nodes-in .nodes-in .ensures ∙ z)) in
     omega (arith, f .0, c .blocks-in .ensures, entry .pre .0 .few)
 
 cast-list-marked : tie.Need-cast-list-marked
@@ -78,12 +78,12 @@ list-marked-requires c κs =
     let at-blocks-in = at-used .before in
     let at-if2 = at-blocks-in .before in
     let at-nodes-in = at-if2 .before in
-    let at-visit = at-nodes-in .before .before .before in
-    let at-lend = at-visit .before in
+    let at-walk-tree = at-nodes-in .before .before .before in
+    let at-lend = at-walk-tree .before in
     let at-clear-marks = at-lend .before .before .before .before .before .before .before in
     let entry = at-clear-marks .before .before .before .before .before .before in
     let a = entry .args in
-    let f = walk-found (a .signatures .now) (a .links .now) (a .query) (a .marks .now) _ (at-clear-marks .clear-marks .ensures) _ (at-lend .lend .ensures) _ _ (at-visit .visit .ensures) (entry .pre .0 .room) (λ z. at-if2 .if2 .left (at-nodes-in .nodes-in .ensures ∙ z)) in
+    let f = walk-found (a .signatures .now) (a .links .now) (a .query) (a .marks .now) _ (at-clear-marks .clear-marks .ensures) _ (at-lend .lend .ensures) _ _ (at-walk-tree .walk-tree .ensures) (entry .pre .0 .room) (λ z. at-if2 .if2 .left (at-nodes-in .nodes-in .ensures ∙ z)) in
     let e = used-read _ _ _ _ (at-used .used .ensures) (at-blocks-in .blocks-in .ensures) in
     (search needs, search needs, omega (arith, e, entry .pre .1 .1), e ∙ f .1)
 
@@ -92,12 +92,12 @@ compares-in-requires c κs = search needs
 
 used-requires-2 : tie.Need-used-requires-2
 used-requires-2 c κs =
-    let at-visit = c .before .before .before .before .before .before .before .before .before .before .before .before in
-    let at-lend = at-visit .before in
+    let at-walk-tree = c .before .before .before .before .before .before .before .before .before .before .before .before in
+    let at-lend = at-walk-tree .before in
     let at-clear-marks = at-lend .before .before .before .before .before .before .before in
     let entry = at-clear-marks .before .before .before .before .before .before in
     let a = entry .args in
-    let f = walk-few (a .signatures .now) (a .links .now) (a .query) (a .marks .now) _ (at-clear-marks .clear-marks .ensures) _ (at-lend .lend .ensures) _ _ (at-visit .visit .ensures) (entry .pre .0 .room) in
+    let f = walk-few (a .signatures .now) (a .links .now) (a .query) (a .marks .now) _ (at-clear-marks .clear-marks .ensures) _ (at-lend .lend .ensures) _ _ (at-walk-tree .walk-tree .ensures) (entry .pre .0 .room) in
     omega (arith, f .1, c .compares-in .ensures, entry .pre .0 .few)
 
 nodes-in-requires-2 : tie.Need-nodes-in-requires-2
@@ -105,12 +105,12 @@ nodes-in-requires-2 c κs = search needs
 
 used-requires-3 : tie.Need-used-requires-3
 used-requires-3 c κs =
-    let at-visit = c .before .before .before .before .before .before .before .before .before .before .before .before .before .before in
-    let at-lend = at-visit .before in
+    let at-walk-tree = c .before .before .before .before .before .before .before .before .before .before .before .before .before .before in
+    let at-lend = at-walk-tree .before in
     let at-clear-marks = at-lend .before .before .before .before .before .before .before in
     let entry = at-clear-marks .before .before .before .before .before .before in
     let a = entry .args in
-    let f = walk-few (a .signatures .now) (a .links .now) (a .query) (a .marks .now) _ (at-clear-marks .clear-marks .ensures) _ (at-lend .lend .ensures) _ _ (at-visit .visit .ensures) (entry .pre .0 .room) in
+    let f = walk-few (a .signatures .now) (a .links .now) (a .query) (a .marks .now) _ (at-clear-marks .clear-marks .ensures) _ (at-lend .lend .ensures) _ _ (at-walk-tree .walk-tree .ensures) (entry .pre .0 .room) in
     omega (arith, f .0, c .nodes-in2 .ensures, entry .pre .0 .few)
 
 same-length-3 : tie.Need-same-length-3
@@ -129,12 +129,12 @@ returns-3 c =
     let at-blocks-in = at-used .before in
     let at-if2 = at-blocks-in .before in
     let at-nodes-in = at-if2 .before in
-    let at-visit = at-nodes-in .before .before .before in
-    let at-lend = at-visit .before in
+    let at-walk-tree = at-nodes-in .before .before .before in
+    let at-lend = at-walk-tree .before in
     let at-if1 = at-lend .before .before .before in
     let at-clear-marks = at-if1 .before .before .before .before in
     let r = report-same _ _ _ _ _ _ (used-read _ _ _ _ (at-used .used .ensures) (at-blocks-in .blocks-in .ensures)) (used-read _ _ _ _ (at-used2 .used2 .ensures) (at-compares-in .compares-in .ensures)) (used-read _ _ _ _ (c .used3 .ensures) (at-nodes-in2 .nodes-in2 .ensures)) in
-    find-list _ _ _ _ _ _ (at-clear-marks .clear-marks .ensures) _ _ (at-lend .lend .ensures) _ _ (at-visit .visit .ensures) (at-if1 .if1 .left) (λ z. at-if2 .if2 .left (at-nodes-in .nodes-in .ensures ∙ z)) r _ (at-list-marked .list-marked .ensures)
+    find-list _ _ _ _ _ _ (at-clear-marks .clear-marks .ensures) _ _ (at-lend .lend .ensures) _ _ (at-walk-tree .walk-tree .ensures) (at-if1 .if1 .left) (λ z. at-if2 .if2 .left (at-nodes-in .nodes-in .ensures ∙ z)) r _ (at-list-marked .list-marked .ensures)
 
 pub find-spec : {M : Type 1} → statement M
 find-spec =
@@ -145,9 +145,9 @@ find-spec =
     no-list-requires
     same-length
     returns
-    shared-slice-read-visit
+    shared-slice-read-walk-tree
     lend-requires
-    visit-requires
+    walk-tree-requires
     nodes-in-requires
     no-list-requires-2
     same-length-2
