@@ -201,6 +201,7 @@ fn main() {
     let clock: Vec<u64> = (0..65535).map(|_| kinds[(rng.next() % 1000) as usize]).collect();
     stores.push(("clock-like, B 65535".into(), clock));
 
+    println!("No buffer is cleared before a search: the marks hold the last one's, and each search sets its own.\n");
     println!("| store | tree | distinct | bits set | found | compares | us a search | to hand-written | to leaf-first | to linear scan |");
     println!("|---|---|---|---|---|---|---|---|---|---|");
     for (name, signatures) in &stores {
