@@ -3,11 +3,10 @@
 mod input;
 mod text;
 
-ghost use mathlib.Core.Path.{_≡_};
-ghost use Prim.Native.Nat.{_+_, _*_, _/_, _≤_, _<_};
+ghost use Prim.Native.Nat.{_+_, _-_, _*_, _≤_, _<_};
 ghost use lib.ListN.{length};
 ghost use Rattle.sigtree.specs.Face.{lent};
-ghost use Rattle.runner.specs.Served.{Served};
+ghost use Rattle.runner.specs.Served.{Served, Batched, Drained, Ended, Ran};
 
 // How long a slip is.
 const SLIP: usize = 16;
@@ -39,25 +38,35 @@ fn serve_one(
     )
 }
 
-// Serves every whole slip of the first `end` bytes of input, and answers where the rest begins.
-fn drain(
+// Where a batch of slips ends, and how many bytes of text their lines are.
+struct BatchEnd {
+    at: usize,
+    used: usize,
+}
+
+// Serves slips from byte `from` on, while there are any before `end` and the text has room for a line.
+fn batch(
     signatures: &mut [u64],
     links: &mut [u32],
     scratch: &mut [u32],
     marks: &mut [u8],
     output: &mut [u32],
     bytes: &[u8],
+    from: usize,
     end: usize,
     text: &mut [u8],
-) -> usize
-    requires { ⌜ (end ≤ length (now bytes)) × (48 + 11 * length (now output) ≤ length (now text)) ⌝ }
-    ensures { λ r. ⌜ r ≡ 16 * (end / 16) ⌝ }
+) -> BatchEnd
+    requires { ⌜ (from ≤ end) × (end ≤ length (now bytes)) × (48 + 11 * length (now output) ≤ length (now text)) ⌝ }
+    ensures served { λ r. ⌜ Batched (now (bytes .entry)) from end (lent (now (signatures .entry)) (now (links .entry)) (now (scratch .entry)) (now (marks .entry)) (now (output .entry))) (lent (now (signatures .exit)) (now (links .exit)) (now (scratch .exit)) (now (marks .exit)) (now (output .exit))) (r .at) (r .used) (now (text .exit)) ⌝ }
+    ensures some { λ r. ⌜ (16 ≤ end - from → from < r .at) ⌝ }
 {
     let most = 48 + 11 * output.len();
-    let mut at = 0;
+    let mut at = from;
     let mut used = 0;
     while end - at >= SLIP {
-        used = text::room(text, used, most);
+        if text.len() - used < most {
+            return BatchEnd { at: at, used: used };
+        }
         used = serve_one(
             signatures,
             links,
@@ -70,7 +79,39 @@ fn drain(
         );
         at += SLIP;
     }
-    text::flush(text, used);
+    BatchEnd { at: at, used: used }
+}
+
+// Serves every whole slip of the first `end` bytes of input, and answers where the rest begins.
+fn drain(
+    signatures: &mut [u64],
+    links: &mut [u32],
+    scratch: &mut [u32],
+    marks: &mut [u8],
+    output: &mut [u32],
+    bytes: &[u8],
+    end: usize,
+    text: &mut [u8],
+) -> usize
+    requires { ⌜ (end ≤ length (now bytes)) × (48 + 11 * length (now output) ≤ length (now text)) ⌝ }
+    ensures { λ r. ⌜ Drained (now (bytes .entry)) end (lent (now (signatures .entry)) (now (links .entry)) (now (scratch .entry)) (now (marks .entry)) (now (output .entry))) (lent (now (signatures .exit)) (now (links .exit)) (now (scratch .exit)) (now (marks .exit)) (now (output .exit))) r ⌝ }
+{
+    let mut at = 0;
+    while end - at >= SLIP {
+        let served = batch(
+            signatures,
+            links,
+            scratch,
+            marks,
+            output,
+            bytes,
+            at,
+            end,
+            text,
+        );
+        text::flush(text, served.used);
+        at = served.at;
+    }
     at
 }
 
@@ -86,20 +127,22 @@ fn last(
     text: &mut [u8],
 )
     requires { ⌜ (kept ≤ length (now bytes)) × (48 + 11 * length (now output) ≤ length (now text)) ⌝ }
+    ensures { λ _. ⌜ Ended (now (bytes .entry)) kept (lent (now (signatures .entry)) (now (links .entry)) (now (scratch .entry)) (now (marks .entry)) (now (output .entry))) (lent (now (signatures .exit)) (now (links .exit)) (now (scratch .exit)) (now (marks .exit)) (now (output .exit))) ⌝ }
 {
-    if kept > 0 {
-        let used = serve_one(
-            signatures,
-            links,
-            scratch,
-            marks,
-            output,
-            &bytes[0..kept],
-            text,
-            0,
-        );
-        text::flush(text, used);
+    if kept == 0 {
+        return;
     }
+    let used = serve_one(
+        signatures,
+        links,
+        scratch,
+        marks,
+        output,
+        &bytes[0..kept],
+        text,
+        0,
+    );
+    text::flush(text, used);
 }
 
 // Serves slips until the input ends. Nothing says that it ends, so the loop counts its turns down from a number that no run uses up. A
@@ -114,6 +157,7 @@ pub fn serve(
     text: &mut [u8],
 )
     requires { ⌜ (length (now output) ≤ 65535) × (48 + 11 * length (now output) ≤ length (now text)) ⌝ }
+    ensures { λ _. ⌜ Ran (lent (now (signatures .entry)) (now (links .entry)) (now (scratch .entry)) (now (marks .entry)) (now (output .entry))) (lent (now (signatures .exit)) (now (links .exit)) (now (scratch .exit)) (now (marks .exit)) (now (output .exit))) ⌝ }
 {
     let mut turns = u64::MAX;
     let mut kept = 0;

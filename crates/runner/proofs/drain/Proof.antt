@@ -1,60 +1,46 @@
--- `runner::drain` meets its contract. The invariant keeps all lengths, so that there is room for a line at each turn.
+-- `runner::drain` meets its contract. The invariant is that of the batches so far; each takes at least one slip.
 -- Assumes nothing.
-use Prim.Native.Nat.{_≤_, _-_, _%_}
-use mathlib.Core.Path.{_≡_}
+use Prim.Native.Nat.{_-_}
+use mathlib.Core.Path.{_≡_, refl}
+use native.Mathlib.Omega.{arith}
 use lib.ListN.{length}
 use borrow.Author.Needs.{needs}
+use Rattle.sigtree.specs.Face.{lent}
+use Rattle.runner.proofs.Turns.{Going, going-none, going-more, going-done}
 use Rattle.runner.proofs.drain.Statement.{statement}
 use Rattle.runner.proofs.drain.Tie as tie
 
 abbrev Inv-loop : tie.InvT-loop
-Inv-loop signatures₀ links₀ scratch₀ marks₀ output₀ bytes end text₀ most at₀ used₀ signatures links scratch marks output text at used =
-    (at ≤ end) × (at % 16 ≡ 0) × (used ≤ length text) × (length text ≡ length text₀) × (length signatures ≡ length signatures₀) × (length links ≡ length links₀) × (length scratch ≡ length scratch₀) × (length marks ≡ length marks₀) × (length output ≡ length output₀)
+Inv-loop signatures₀ links₀ scratch₀ marks₀ output₀ bytes end text₀ at₀ signatures links scratch marks output text at =
+    Going bytes end (lent signatures₀ links₀ scratch₀ marks₀ output₀) (lent signatures links scratch marks output) at
+    × (length text ≡ length text₀) × (length signatures ≡ length signatures₀) × (length links ≡ length links₀) × (length scratch ≡ length scratch₀) × (length marks ≡ length marks₀) × (length output ≡ length output₀)
 
 abbrev μ-loop : tie.MeasureT-loop
-μ-loop signatures₀ links₀ scratch₀ marks₀ output₀ bytes end text₀ most at₀ used₀ signatures links scratch marks output text at used = end - at
-
-mul-most : tie.Need-mul-most Inv-loop μ-loop
-mul-most c = search needs
-
-add-most : tie.Need-add-most Inv-loop μ-loop
-add-most c = search needs
+μ-loop signatures₀ links₀ scratch₀ marks₀ output₀ bytes end text₀ at₀ signatures links scratch marks output text at = end - at
 
 loop-holds : tie.Need-loop-holds Inv-loop μ-loop
-loop-holds c = search needs
+loop-holds c = (going-none _ _ _, refl, refl, refl, refl, refl, refl)
 
 sub-loop : tie.Need-sub-loop Inv-loop μ-loop
 sub-loop c = search needs
 
-room-requires : tie.Need-room-requires Inv-loop μ-loop
-room-requires c κs = search needs
-
-add-serve-one : tie.Need-add-serve-one Inv-loop μ-loop
-add-serve-one c = search needs
-
-sub-serve-one : tie.Need-sub-serve-one Inv-loop μ-loop
-sub-serve-one c = search needs
-
-part-serve-one-start : tie.Need-part-serve-one-start Inv-loop μ-loop
-part-serve-one-start c = search needs
-
-part-serve-one-end : tie.Need-part-serve-one-end Inv-loop μ-loop
-part-serve-one-end c = search needs
-
-serve-one-requires : tie.Need-serve-one-requires Inv-loop μ-loop
-serve-one-requires c κs = search needs
-
-add-at : tie.Need-add-at Inv-loop μ-loop
-add-at c = search needs
-
-loop-less : tie.Need-loop-less Inv-loop μ-loop
-loop-less c = search needs
-
-loop-again : tie.Need-loop-again Inv-loop μ-loop
-loop-again c = search needs
+batch-requires : tie.Need-batch-requires Inv-loop μ-loop
+batch-requires c κs = search needs
 
 flush-requires : tie.Need-flush-requires Inv-loop μ-loop
 flush-requires c κs = search needs
+
+loop-less : tie.Need-loop-less Inv-loop μ-loop
+loop-less c =
+    let at-batch = c .before .before .before .before .before .before .before .before .before .before .before .before .before .before in
+    let at-loop-test = at-batch .before .before .before .before .before .before .before in
+    omega (arith, at-batch .batch .ensures .1 (at-loop-test .loop-test .taken), at-batch .batch .ensures .0 .inside)
+
+loop-again : tie.Need-loop-again Inv-loop μ-loop
+loop-again c =
+    let at-batch = c .before .before .before .before .before .before .before .before .before .before .before .before .before .before in
+    let at-loop = at-batch .before .before .before .before .before .before .before .before in
+    (going-more _ _ _ _ _ _ _ _ _ (at-loop .loop .inv .0) (at-batch .batch .ensures .0), search needs, search needs, search needs, search needs, search needs, search needs)
 
 same-length : tie.Need-same-length Inv-loop μ-loop
 same-length c = search needs
@@ -75,7 +61,7 @@ same-length-6 : tie.Need-same-length-6 Inv-loop μ-loop
 same-length-6 c = search needs
 
 returns : tie.Need-returns Inv-loop μ-loop
-returns c = search needs
+returns c = going-done _ _ _ _ _ (c .before .loop .inv .0) (c .loop-test .left)
 
 pub drain-spec : {M : Type 1} → statement M
 drain-spec =
@@ -83,20 +69,12 @@ drain-spec =
     (tie.spec
     Inv-loop
     μ-loop
-    mul-most
-    add-most
     loop-holds
     sub-loop
-    room-requires
-    add-serve-one
-    sub-serve-one
-    part-serve-one-start
-    part-serve-one-end
-    serve-one-requires
-    add-at
+    batch-requires
+    flush-requires
     loop-less
     loop-again
-    flush-requires
     same-length
     same-length-2
     same-length-3

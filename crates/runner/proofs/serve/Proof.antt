@@ -1,21 +1,26 @@
--- `runner::serve` meets its contract. The invariant keeps all lengths; the turns fall.
+-- `runner::serve` meets its contract. The invariant is that slips were served in turn, and that all lengths are kept; the turns fall.
 -- Assumes nothing.
 use Prim.Native.Nat.{_≤_}
-use mathlib.Core.Path.{_≡_}
+use mathlib.Core.Path.{_≡_, refl}
+use native.Mathlib.Omega.{arith}
 use lib.ListN.{length}
 use borrow.Author.Needs.{needs}
+use Rattle.sigtree.specs.Face.{lent}
+use Rattle.runner.specs.Served.{Ran}
+use Rattle.runner.proofs.Turns.{ran-none, ran-more}
 use Rattle.runner.proofs.serve.Statement.{statement}
 use Rattle.runner.proofs.serve.Tie as tie
 
 abbrev Inv-loop : tie.InvT-loop
 Inv-loop signatures₀ links₀ scratch₀ marks₀ output₀ bytes₀ text₀ turns₀ kept₀ signatures links scratch marks output bytes text turns kept =
-    (kept ≤ length bytes) × (length bytes ≡ length bytes₀) × (length text ≡ length text₀) × (length signatures ≡ length signatures₀) × (length links ≡ length links₀) × (length scratch ≡ length scratch₀) × (length marks ≡ length marks₀) × (length output ≡ length output₀)
+    Ran (lent signatures₀ links₀ scratch₀ marks₀ output₀) (lent signatures links scratch marks output)
+    × (kept ≤ length bytes) × (length bytes ≡ length bytes₀) × (length text ≡ length text₀) × (length signatures ≡ length signatures₀) × (length links ≡ length links₀) × (length scratch ≡ length scratch₀) × (length marks ≡ length marks₀) × (length output ≡ length output₀)
 
 abbrev μ-loop : tie.MeasureT-loop
 μ-loop signatures₀ links₀ scratch₀ marks₀ output₀ bytes₀ text₀ turns₀ kept₀ signatures links scratch marks output bytes text turns kept = turns
 
 loop-holds : tie.Need-loop-holds Inv-loop μ-loop
-loop-holds c = search needs
+loop-holds c = (ran-none _, search needs, refl, refl, refl, refl, refl, refl, refl)
 
 fill-requires : tie.Need-fill-requires Inv-loop μ-loop
 fill-requires c κs = search needs
@@ -45,7 +50,10 @@ same-length-7 : tie.Need-same-length-7 Inv-loop μ-loop
 same-length-7 c = search needs
 
 returns : tie.Need-returns Inv-loop μ-loop
-returns c = search needs
+returns c =
+    let at-last = c .before .before .before .before .before .before .before .before .before .before .before .before in
+    let at-loop = at-last .before .before .before .before .before .before .before .before .before .before .before .before .before .before in
+    ran-more _ _ _ _ _ (at-loop .loop .inv .0) (at-last .last .ensures .turns)
 
 drain-requires : tie.Need-drain-requires Inv-loop μ-loop
 drain-requires c κs = search needs
@@ -60,7 +68,12 @@ loop-less : tie.Need-loop-less Inv-loop μ-loop
 loop-less c = search needs
 
 loop-again : tie.Need-loop-again Inv-loop μ-loop
-loop-again c = search needs
+loop-again c =
+    let at-shift = c .before .before in
+    let at-drain = at-shift .before .before .before .before .before .before .before .before .before .before .before .before .before .before in
+    let at-fill = at-drain .before .before .before .before .before .before .before .before .before .before .before in
+    let at-loop = at-drain .before .before .before .before .before .before .before .before .before .before .before .before .before .before in
+    (ran-more _ _ _ _ _ (at-loop .loop .inv .0) (at-drain .drain .ensures .turns), omega (arith, at-shift .shift .ensures .0, at-drain .drain .ensures .whole, at-fill .fill .ensures .1), search needs, search needs, search needs, search needs, search needs, search needs, search needs)
 
 same-length-8 : tie.Need-same-length-8 Inv-loop μ-loop
 same-length-8 c = search needs
@@ -84,7 +97,7 @@ same-length-14 : tie.Need-same-length-14 Inv-loop μ-loop
 same-length-14 c = search needs
 
 returns-2 : tie.Need-returns-2 Inv-loop μ-loop
-returns-2 c = search needs
+returns-2 c = c .before .loop .inv .0
 
 pub serve-spec : {M : Type 1} → statement M
 serve-spec =
