@@ -145,9 +145,8 @@ fn last(
     text::flush(text, used);
 }
 
-// Serves slips until the input ends. Nothing says that it ends, so the loop counts its turns down from a number that no run uses up. A
-// text that is too short for a line serves nothing.
-pub fn serve(
+// Serves slips until the input ends. Nothing says that it ends, so the loop counts its turns down from a number that no run uses up.
+fn serve_all(
     signatures: &mut [u64],
     links: &mut [u32],
     scratch: &mut [u32],
@@ -156,7 +155,7 @@ pub fn serve(
     bytes: &mut [u8],
     text: &mut [u8],
 )
-    requires { ⌜ (length (now output) ≤ 65535) × (48 + 11 * length (now output) ≤ length (now text)) ⌝ }
+    requires { ⌜ 48 + 11 * length (now output) ≤ length (now text) ⌝ }
     ensures { λ _. ⌜ Ran (lent (now (signatures .entry)) (now (links .entry)) (now (scratch .entry)) (now (marks .entry)) (now (output .entry))) (lent (now (signatures .exit)) (now (links .exit)) (now (scratch .exit)) (now (marks .exit)) (now (output .exit))) ⌝ }
 {
     let mut turns = u64::MAX;
@@ -171,4 +170,25 @@ pub fn serve(
         kept = input::shift(bytes, from, end);
         turns -= 1;
     }
+}
+
+// Serves the slips of standard input. A text that has no room for a line serves none.
+pub fn serve(
+    signatures: &mut [u64],
+    links: &mut [u32],
+    scratch: &mut [u32],
+    marks: &mut [u8],
+    output: &mut [u32],
+    bytes: &mut [u8],
+    text: &mut [u8],
+)
+    ensures { λ _. ⌜ Ran (lent (now (signatures .entry)) (now (links .entry)) (now (scratch .entry)) (now (marks .entry)) (now (output .entry))) (lent (now (signatures .exit)) (now (links .exit)) (now (scratch .exit)) (now (marks .exit)) (now (output .exit))) ⌝ }
+{
+    if text.len() < 48 {
+        return;
+    }
+    if (text.len() - 48) / 11 < output.len() {
+        return;
+    }
+    serve_all(signatures, links, scratch, marks, output, bytes, text);
 }
