@@ -5,6 +5,7 @@ mod c_face;
 mod face;
 mod reference;
 mod rng;
+mod texts;
 
 use face::{Lent, Report};
 use reference::{below, Tables};
@@ -323,54 +324,91 @@ fn lists(rng: &mut Rng, calls: usize) -> usize {
     done
 }
 
+/// Tables that are sound but for a position tested twice: a leaf agrees with the second test of it, and not with the first.
+fn twice_tested(rng: &mut Rng) -> Tables {
+    let (blocks, width) = (rng.pick(&[3, 4, 7]), rng.pick(&[2, 3, 5, 64]));
+    let p = 1 + rng.below(width as u64) as u32;
+    let (weight, e) = (1u64 << (width - p), rng.below(2) as usize);
+    let mut with = |set: bool| {
+        let s = rng.next() >> (64 - width);
+        if set { s | weight } else { s & !weight }
+    };
+    let (a, b) = (with(e == 1), with(e == 0));
+    let other = if weight == 1 { 2 } else { 1 };
+    let mut t = Tables::cleared(blocks, width);
+    t.signatures[..3].copy_from_slice(&[a, b, b ^ other]);
+    for b in 1..=3 {
+        t.links[Tables::filed_at(b)] = 1;
+    }
+    t.links[2] = blocks as u32 + 1;
+    t.links[3] = if blocks > 3 { 3 } else { 0 };
+    t.links[4] = 3;
+    for (node, here, there) in [(1, blocks as u32 + 2, 3), (2, 1, 2)] {
+        let row = t.node_at(node);
+        t.links[row] = p;
+        t.links[row + 1 + e] = here;
+        t.links[row + 2 - e] = there;
+    }
+    t
+}
+
 /// Sound tables with some words changed, and every call on them. It says how many of them were sound all the same.
 fn corrupted(rng: &mut Rng, tables: usize) -> usize {
     let mut sound = 0;
     for _ in 0..tables {
-        let blocks = rng.pick(&[1, 2, 3, 5, 8, 17]);
-        let mut t = Tables::cleared(blocks, rng.pick(&[1, 2, 3, 4, 6, 64]));
-        for _ in 0..rng.below(3 * blocks as u64 + 1) {
-            let call = random_call(&t, rng);
-            let r = Request { call, signatures_short: 0, links_short: 0, scratch: blocks, marks: blocks, output: blocks };
-            match &r.call {
-                Call::File(..) | Call::Withdraw(..) | Call::Rebuild => step(&mut t, &r, rng).unwrap_or_else(|e| panic!("{e}: {r:?}")),
-                _ => {}
-            }
+        sound += every_call(&changed(rng), rng) as usize;
+    }
+    for _ in 0..tables / 50 {
+        assert!(!every_call(&twice_tested(rng), rng));
+    }
+    sound
+}
+
+fn changed(rng: &mut Rng) -> Tables {
+    let blocks = rng.pick(&[1, 2, 3, 5, 8, 17]);
+    let mut t = Tables::cleared(blocks, rng.pick(&[1, 2, 3, 4, 6, 64]));
+    for _ in 0..rng.below(3 * blocks as u64 + 1) {
+        let call = random_call(&t, rng);
+        let r = Request { call, signatures_short: 0, links_short: 0, scratch: blocks, marks: blocks, output: blocks };
+        match &r.call {
+            Call::File(..) | Call::Withdraw(..) | Call::Rebuild => step(&mut t, &r, rng).unwrap_or_else(|e| panic!("{e}: {r:?}")),
+            _ => {}
         }
-        for _ in 0..1 + rng.below(3) {
-            let b = blocks as u32;
-            let any = rng.below(2 * blocks as u64) as u32;
-            let word = rng.pick(&[0, 1, 2, b, b + 1, 2 * b - 1, 2 * b, u32::MAX, any]);
-            if rng.one_in(6) {
-                let at = rng.below(blocks as u64) as usize;
-                let other = t.signatures[rng.below(blocks as u64) as usize];
-                t.signatures[at] = rng.pick(&[0, 1, t.signatures[at] ^ 1, other, u64::MAX]);
-            } else {
-                let at = rng.below(t.links.len() as u64) as usize;
-                t.links[at] = word;
-            }
+    }
+    for _ in 0..1 + rng.below(3) {
+        let b = blocks as u32;
+        let any = rng.below(2 * blocks as u64) as u32;
+        let word = rng.pick(&[0, 1, 2, b, b + 1, 2 * b - 1, 2 * b, u32::MAX, any]);
+        if rng.one_in(6) {
+            let at = rng.below(blocks as u64) as usize;
+            let other = t.signatures[rng.below(blocks as u64) as usize];
+            t.signatures[at] = rng.pick(&[0, 1, t.signatures[at] ^ 1, other, u64::MAX]);
+        } else {
+            let at = rng.below(t.links.len() as u64) as usize;
+            t.links[at] = word;
         }
-        sound += t.sound() as usize;
-        for _ in 0..6 {
-            let r = Request { signatures_short: 0, links_short: 0, ..random_request(&t, rng) };
-            if let Err(e) = step(&mut t.clone(), &r, rng) {
-                println!("failed: {e}\n  {r:?}\n  {t:?}");
-                std::process::exit(1)
-            }
-        }
-        let r = Request { call: Call::Audit, signatures_short: 0, links_short: 0, scratch: 0, marks: 0, output: 0 };
+    }
+    t
+}
+
+/// Six calls and an audit, each on these tables. It says whether they are sound.
+fn every_call(t: &Tables, rng: &mut Rng) -> bool {
+    for i in 0..7 {
+        let call = if i < 6 { random_request(t, rng) } else { Request { call: Call::Audit, ..random_request(t, rng) } };
+        let r = Request { signatures_short: 0, links_short: 0, ..call };
         if let Err(e) = step(&mut t.clone(), &r, rng) {
             println!("failed: {e}\n  {r:?}\n  {t:?}");
             std::process::exit(1)
         }
     }
-    sound
+    t.sound()
 }
 
 fn main() {
     let mut rng = Rng::new(20261115);
-    let calls = lists(&mut rng, 120_000);
+    let calls = lists(&mut rng, 1_200_000);
     println!("{calls} calls as the request says");
-    let (tables, sound) = (25_000, corrupted(&mut rng, 25_000));
+    let (tables, sound) = (250_000, corrupted(&mut rng, 250_000));
     println!("{tables} corrupted tables, {sound} of them still sound, with seven calls each");
+    println!("{} texts signed and split as the request says", texts::texts(&mut rng, 500_000));
 }

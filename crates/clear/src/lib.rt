@@ -8,7 +8,7 @@ ghost use lib.ListN.{length};
 ghost use Rattle.model.specs.Tables.{linksOf};
 ghost use Rattle.model.specs.Clear.{clearLinks};
 ghost use Rattle.model.specs.Promises.{ClearPromise};
-use tables::words;
+use tables::address;
 
 // question 4's number
 const UNFIT: u32 = 4;
@@ -21,9 +21,9 @@ fn clear_links(links: &mut [u32], blocks: usize, width: u32)
     let first = chain::first_free(blocks);
     zeros::zero_links(links);
     chain::chain_nodes(links, blocks);
-    links[words::WIDTH] = width;
-    links[words::BLOCKS] = blocks as u32;
-    links[words::FREE] = first;
+    links[address::WIDTH] = width;
+    links[address::BLOCKS] = blocks as u32;
+    links[address::FREE] = first;
 }
 
 // Clears the tables, whatever they were. Question 4 looks at the lengths, B and the width asked for.

@@ -5,7 +5,7 @@ ghost use lib.ListN.{length};
 ghost use Rattle.model.specs.Tables.{linksOf, widthOf, countOf};
 ghost use Rattle.model.specs.Sound.{FitsAt};
 ghost use Rattle.file.specs.Plan.{PlanFits, SplitPlan, Plans};
-use tables::words;
+use tables::address;
 
 // Nothing, for unfit tables; the first leaf; the block after the head of a chain; or a node in the place of a leaf: the address of the
 // leaf's reference, the leaf, the node, its position and the side of it that the block goes to.
@@ -31,7 +31,7 @@ fn plan_split(
     ensures splits { λ r. ⌜ SplitPlan blocks width (now (links .entry)) signature link leaf other r ⌝ }
     ensures within { λ r. ⌜ PlanFits blocks (now (links .entry)) r ⌝ }
 {
-    let node = links[words::FREE];
+    let node = links[address::FREE];
     if !tables::front::is_block(node, blocks - 1) {
         return Plan::Unfit;
     }
@@ -51,11 +51,11 @@ pub fn plan_filing(signatures: &[u64], links: &[u32], block: u32, signature: u64
     ensures within { λ r. ⌜ PlanFits (length (now (signatures .entry))) (now (links .entry)) r ⌝ }
 {
     let blocks = signatures.len();
-    let width = links[words::WIDTH];
-    if blocks <= tables::wide(links[words::COUNT]) {
+    let width = links[address::WIDTH];
+    if blocks <= tables::wide(links[address::COUNT]) {
         return Plan::Unfit;
     }
-    if links[words::ROOT] == 0 {
+    if links[address::ROOT] == 0 {
         return Plan::First;
     }
     let walked = tables::walk::walk(links, blocks, width, signature);

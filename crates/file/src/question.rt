@@ -1,7 +1,7 @@
 // The questions of a filing, in order: the first no decides.
 ghost use mathlib.Core.Path.{_≡_};
 ghost use Rattle.model.specs.Questions.{asksTables, fileRefusal};
-use tables::words;
+use tables::address;
 
 // 4: do the tables fit? 5: is the block 1 to B? 6: is the signature below 2 ^ F? 7: is the block unfiled?
 const UNFIT: u32 = 4;
@@ -22,7 +22,7 @@ pub fn first_no(signatures: &[u64], links: &[u32], block: u32, signature: u64) -
     if !tables::front::is_block(block, signatures.len()) {
         return NO_BLOCK;
     }
-    if !signature::fits(signature, links[words::WIDTH]) {
+    if !signature::fits(signature, links[address::WIDTH]) {
         return TOO_LARGE;
     }
     if tables::rows::filed_of(links, block as usize) != 0 {

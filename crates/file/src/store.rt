@@ -8,7 +8,7 @@ ghost use Rattle.model.specs.Stores.{_↤_, stores};
 ghost use Rattle.model.specs.File.{filingStores, firstStores, chainStores, splitStores};
 ghost use Rattle.file.specs.Plan.{PlanFits, isPlan, planStores};
 use crate::plan::Plan;
-use tables::words;
+use tables::address;
 
 // The block's row and the count: the stores of every filing.
 fn store_row(links: &mut [u32], block: u32, next: u32)
@@ -17,9 +17,9 @@ fn store_row(links: &mut [u32], block: u32, next: u32)
     ensures long { λ _. ⌜ length (now (links .exit)) ≡ length (now (links .entry)) ⌝ }
 {
     let b = block as usize;
-    let count = links[words::COUNT];
+    let count = links[address::COUNT];
     links[2 * b + 4] = 1;
-    links[words::COUNT] = count + 1;
+    links[address::COUNT] = count + 1;
     links[2 * b + 3] = next;
 }
 
@@ -29,7 +29,7 @@ fn store_first(links: &mut [u32], block: u32)
     ensures { λ _. ⌜ now (links .exit) ≡ stores (now (links .entry)) (firstStores (now (links .entry)) block) ⌝ }
 {
     store_row(links, block, 0);
-    links[words::ROOT] = block;
+    links[address::ROOT] = block;
 }
 
 // The block goes directly after the head in its chain.
@@ -62,7 +62,7 @@ fn store_split(
     let e = side as usize;
     let free = links[words + 3];
     store_row(links, block, 0);
-    links[words::FREE] = free;
+    links[address::FREE] = free;
     links[words + 2] = position;
     links[words + (3 + e)] = block;
     links[words + (3 + (1 - e))] = leaf;

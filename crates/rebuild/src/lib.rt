@@ -8,8 +8,8 @@ ghost use lib.ListN.{length, drop};
 ghost use Rattle.model.specs.Sound.{Sound};
 ghost use Rattle.model.specs.Rebuild.{rebuildLinks};
 ghost use Rattle.model.specs.Promises.{RebuildPromise};
+use tables::address;
 use tables::front::tables_fit;
-use tables::words;
 
 // question 4: the lengths, B, F and words 0 and 1 do not fit
 const UNFIT: u32 = 4;
@@ -28,11 +28,11 @@ fn rebuild_sound(signatures: &[u64], links: &mut [u32], scratch: &mut [u32])
     ensures beyond { λ _. ⌜ drop (length (now (signatures .entry))) (now (scratch .exit)) ≡ drop (length (now (signatures .entry))) (now (scratch .entry)) ⌝ }
 {
     let blocks = signatures.len();
-    let width = links[words::WIDTH];
-    let heads = collect::collect(links, scratch, blocks, links[words::ROOT], width, 0);
+    let width = links[address::WIDTH];
+    let heads = collect::collect(links, scratch, blocks, links[address::ROOT], width, 0);
     let first = free::after_tree(heads);
-    links[words::ROOT] = split::reference(heads, scratch[0], blocks + 1);
-    links[words::FREE] = free::free_from(blocks, first);
+    links[address::ROOT] = split::reference(heads, scratch[0], blocks + 1);
+    links[address::FREE] = free::free_from(blocks, first);
     split::build(signatures, links, &mut scratch[..heads], width, 1);
     free::free_rest(links, blocks, first);
 }

@@ -6,7 +6,7 @@ ghost use lib.ListN.{length};
 ghost use Rattle.model.specs.Tables.{linksOf, widthOf};
 ghost use Rattle.model.specs.Sound.{FitsAt};
 ghost use Rattle.model.specs.Questions.{blocksFit, widthFits, asksTables, tablesFit};
-use crate::words;
+use crate::address;
 
 // the largest number of blocks, and the widest width
 const MOST_BLOCKS: usize = 65535;
@@ -45,10 +45,10 @@ pub fn tables_fit(signatures: &[u64], links: &[u32]) -> bool
     if !lengths_fit(blocks, links.len()) {
         return false;
     }
-    if !width_fits(links[words::WIDTH]) {
+    if !width_fits(links[address::WIDTH]) {
         return false;
     }
-    links[words::BLOCKS] as usize == blocks
+    links[address::BLOCKS] as usize == blocks
 }
 
 // Question 5: is the block 1 to B?

@@ -1,9 +1,9 @@
 // The words of the tables: the one place in code that knows where a word stands, with question 4, and the walk by a signature's bits.
+pub mod address;
 pub mod front;
 pub mod nodes;
 pub mod rows;
 pub mod walk;
-pub mod words;
 
 ghost use mathlib.Core.Path.{_≡_};
 

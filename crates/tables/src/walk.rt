@@ -5,7 +5,7 @@ ghost use mathlib.Core.Path.{_≡_};
 ghost use lib.ListN.{length};
 ghost use Rattle.model.specs.Tables.{linksOf};
 ghost use Rattle.tables.specs.Walk.{EdgeOf, Ends};
-use crate::words;
+use crate::address;
 
 // Where a walk ends: the address of the reference reached, 0 on an unfit node; and that of its parent's reference, 0 where there is none.
 pub struct Walked {
@@ -40,7 +40,7 @@ pub fn walk(links: &[u32], blocks: usize, width: u32, signature: u64) -> Walked
     ensures ends { λ r. ⌜ Ends blocks width (now (links .entry)) signature (r .link) (r .above) ⌝ }
     ensures inside { λ r. ⌜ (r .link < linksOf blocks) × (r .above < linksOf blocks) ⌝ }
 {
-    let mut link: usize = words::ROOT;
+    let mut link: usize = address::ROOT;
     let mut above: usize = 0;
     let mut untested = width;
     while 0 < untested {

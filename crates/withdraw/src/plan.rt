@@ -5,7 +5,7 @@ ghost use lib.ListN.{length};
 ghost use Rattle.model.specs.Tables.{linksOf, countOf};
 ghost use Rattle.withdraw.specs.Asking.{Passed};
 ghost use Rattle.withdraw.specs.Plan.{PlanFits, IsBefore, PlansChain, PlansRaise, PlansHead, PlansRight};
-use tables::words;
+use tables::address;
 
 // What is stored besides the block's row and the count: nothing, for unfit tables; a reference or a next word at an address; or a
 // sibling in its parent's place (the address of the parent's reference, the parent's node number, the sibling's reference).
@@ -104,7 +104,7 @@ pub fn plan_head(
         return Plan::Relink(link, next);
     }
     if above == 0 {
-        return Plan::Relink(words::ROOT, 0);
+        return Plan::Relink(address::ROOT, 0);
     }
     plan_raise(links, blocks, width, block, signature, above)
 }
@@ -116,8 +116,8 @@ pub fn plan_block(signatures: &[u64], links: &[u32], block: u32) -> Plan
     ensures within { λ r. ⌜ PlanFits (length (now (signatures .entry))) (now (links .entry)) r ⌝ }
 {
     let blocks = signatures.len();
-    let width = links[words::WIDTH];
-    if links[words::COUNT] == 0 {
+    let width = links[address::WIDTH];
+    if links[address::COUNT] == 0 {
         return Plan::Unfit;
     }
     let signature = tables::rows::signature_of(signatures, block as usize);

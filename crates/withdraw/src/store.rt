@@ -8,17 +8,17 @@ ghost use Rattle.model.specs.Stores.{stores, _↤_};
 ghost use Rattle.model.specs.Withdraw.{withdrawalStores, raiseStores};
 ghost use Rattle.withdraw.specs.Plan.{PlanFits, isPlan, planStores};
 use crate::plan::Plan;
-use tables::words;
+use tables::address;
 
 // The block's row becomes 0, and the count falls by one.
 pub fn clear_row(links: &mut [u32], block: usize)
     requires { ⌜ (filedAt block < length (now links)) × (1 ≤ countOf (now links)) ⌝ }
     ensures { λ _. ⌜ now (links .exit) ≡ stores (now (links .entry)) (withdrawalStores (now (links .entry)) block []) ⌝ }
 {
-    let count = links[words::COUNT];
+    let count = links[address::COUNT];
     tables::rows::set_next(links, block, 0);
     tables::rows::set_filed(links, block, 0);
-    links[words::COUNT] = count - 1;
+    links[address::COUNT] = count - 1;
 }
 
 // The same, and one word more is stored.
@@ -43,10 +43,10 @@ pub fn raise(
     requires { ⌜ (block ≤ blocks) × (above < linksOf blocks) × (1 ≤ node) × (node < blocks) ⌝ }
     ensures { λ _. ⌜ now (links .exit) ≡ stores (now (links .entry)) (raiseStores blocks (now (links .entry)) block above node sibling) ⌝ }
 {
-    let free = links[words::FREE];
+    let free = links[address::FREE];
     clear_row(links, block);
     tables::nodes::set_node(links, blocks, node, 0, free, 0);
-    links[words::FREE] = node as u32;
+    links[address::FREE] = node as u32;
     links[above] = sibling;
 }
 
