@@ -15,7 +15,7 @@ use Rattle.model.specs.Tables.{nextOf, filedOf, signatureOf}
 use Rattle.model.specs.Sound.{Chain}
 use Rattle.audit.specs.declared.chain.Chained.{Chained}
 use Rattle.audit.specs.Audit.{blockOk, stuck, chainTwin}
-use Rattle.audit.proofs.Picks.{no-bool, pick-false, pick-true}
+use Rattle.model.proofs.Picks.{no-bool, pick-false, pick-true}
 
 pub pos-ne : {b : ℕ} → 0 < b → b ≡ 0 → ⊥
 pos-ne h e = omega arith

@@ -12,7 +12,7 @@ use borrow.Author.Tests.{eq-eqb, ne-eqb, le-leb, lt-leb, eqb-true, eqb-false, le
 use Rattle.model.specs.Tables.{positionOf, leftOf, rightOf}
 use Rattle.model.specs.Sound.{FreeChain}
 use Rattle.audit.specs.Audit.{freeOk, freeTwin}
-use Rattle.audit.proofs.Picks.{pick-false, pick-true}
+use Rattle.model.proofs.Picks.{pick-false, pick-true}
 
 -- a node on the free chain
 record FreeIs (L : List ℕ) (B r : ℕ) : Type 0 where

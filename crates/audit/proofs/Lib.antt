@@ -1,5 +1,4 @@
 -- The audit's yes is soundness, both ways (`Verdict`), and its work is linear (`Work`); before them the steps that both go by.
-pub mod Picks
 pub mod RowLaws
 pub mod ChainLaws
 pub mod PathLaws

@@ -10,10 +10,11 @@ use mathlib.Core.Bool.{Bool, true, false}
 use mathlib.Core.List.{List}
 use lib.Dec.{eqb, ltb}
 use borrow.Author.Tests.{eq-eqb, ne-eqb, lt-ltb, eqb-true, ltb-true}
+use Rattle.model.specs.Basics.{pick}
 use Rattle.model.specs.Tables.{widthOf, nextOf, filedOf, signatureOf}
 use Rattle.model.specs.Sound.{filedUpTo}
-use Rattle.audit.specs.Audit.{pick, rowOk, rowsOk}
-use Rattle.audit.proofs.Picks.{pick-true}
+use Rattle.audit.specs.Audit.{rowOk, rowsOk}
+use Rattle.model.proofs.Picks.{pick-true}
 
 -- a row in order
 pub record RowIs (F s x f : ℕ) : Type 0 where

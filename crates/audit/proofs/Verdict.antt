@@ -20,7 +20,7 @@ use Rattle.model.proofs.Members.{full}
 use Rattle.tables.proofs.Fits.{fits-of}
 use Rattle.audit.specs.declared.walk.Part.{Part}
 use Rattle.audit.specs.Audit.{Fits, rowsOk, treeTwin, lentTree, soundb, auditTwin}
-use Rattle.audit.proofs.Picks.{no-bool, pick-true}
+use Rattle.model.proofs.Picks.{no-bool, pick-true}
 use Rattle.audit.proofs.RowLaws.{rows-yes, rows-whole}
 use Rattle.audit.proofs.FreeLaws.{free-yes, free-whole}
 use Rattle.audit.proofs.Counting.{filedList, filed-length, filed-in, filed-has, filed-distinct}

@@ -13,6 +13,7 @@ use lib.Dec.{eqb}
 use lib.ListN.{length}
 use lib.Pow.{pow-pos, shl-exact}
 use borrow.Author.Tests.{eq-eqb, ne-eqb, lt-ltb, le-ltb, le-leb, lt-leb}
+use Rattle.model.specs.Basics.{pick}
 use Rattle.model.specs.Signature.{bitAt}
 use Rattle.model.specs.Tables.{widthOf, positionOf, leftOf, rightOf, signatureOf}
 use Rattle.audit.specs.declared.chain.Chained.{Chained}
@@ -20,7 +21,7 @@ use Rattle.audit.specs.declared.walk.Lent.{Lent}
 use Rattle.audit.specs.declared.walk.Part.{Part}
 use Rattle.audit.specs.declared.walk.Tested.{Tested}
 use Rattle.audit.specs.declared.node.Node.{Node}
-use Rattle.audit.specs.Audit.{pick, chainTwin, failed, leafOf, leafTwin, unfit, lookTwin, passedBy, nodeLess, sidesTwin, walkTwin}
+use Rattle.audit.specs.Audit.{chainTwin, failed, leafOf, leafTwin, unfit, lookTwin, passedBy, nodeLess, sidesTwin, walkTwin}
 
 -- a weight by a shift
 one-shl : (l : ℕ) → l < 64 → (1 * 2 ^ l) % 2 ^ 64 ≡ 2 ^ l

@@ -18,7 +18,7 @@ use Rattle.audit.specs.declared.walk.Lent.{Lent}
 use Rattle.audit.specs.declared.walk.Part.{Part}
 use Rattle.audit.specs.declared.walk.Tested.{Tested}
 use Rattle.audit.specs.Audit.{chainTwin, leafOf, leafTwin, unfit, lookTwin, thenRight, nodeLess, walkTwin, untestedAll, treeTwin}
-use Rattle.audit.proofs.Picks.{no-bool}
+use Rattle.model.proofs.Picks.{no-bool}
 use Rattle.audit.proofs.ChainLaws.{From, from-chain, chain-yes}
 use Rattle.audit.proofs.PathLaws.{Carried, carried-root, left-edge, right-edge, carried-edge}
 use Rattle.audit.proofs.WalkLaws.{NodeIs, look-cases, leaf-zero, leaf-off, leaf-on, walk-leaf, walk-out, walk-done, walk-unfit, walk-fork}

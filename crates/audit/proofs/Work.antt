@@ -10,6 +10,7 @@ use lib.Bits.{bitAnd}
 use lib.Dec.{eqb, leb}
 use lib.ListN.{length}
 use borrow.Author.Tests.{eqb-true, eqb-false}
+use Rattle.model.specs.Basics.{pick}
 use Rattle.model.specs.Tables.{widthOf, rootOf, freeOf, countOf, nextOf, leftOf, signatureOf}
 use Rattle.model.specs.Questions.{asksTables, tablesFit}
 use Rattle.tables.proofs.Counts.{filed-few}
@@ -18,9 +19,9 @@ use Rattle.audit.specs.declared.walk.Lent.{Lent}
 use Rattle.audit.specs.declared.walk.Part.{Part}
 use Rattle.audit.specs.declared.walk.Tested.{Tested}
 use Rattle.audit.specs.declared.node.Node.{Node}
-use Rattle.audit.specs.Audit.{pick, rowsOk, blockOk, stuck, chainTwin, failed, leafOf, leafTwin, lookTwin, passedBy, nodeLess, thenRight, sidesTwin, nodeTwin, walkTwin, untestedAll, treeTwin, freeOk, lentTree}
+use Rattle.audit.specs.Audit.{rowsOk, blockOk, stuck, chainTwin, failed, leafOf, leafTwin, lookTwin, passedBy, nodeLess, thenRight, sidesTwin, nodeTwin, walkTwin, untestedAll, treeTwin, freeOk, lentTree}
 use Rattle.audit.specs.Work.{Seen, none, one, plus, chainSeen, leafSeen, sidesSeen, nodeSeen, walkSeen, treeSeen, freeSeen, restSeen, comesToTree, treeWork, freeWork}
-use Rattle.audit.proofs.Picks.{no-bool, pick-true}
+use Rattle.model.proofs.Picks.{no-bool, pick-true}
 use Rattle.audit.proofs.RowLaws.{rows-yes}
 
 -- no more than was lent; and what a fit part leaves was not used

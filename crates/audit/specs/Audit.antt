@@ -7,6 +7,7 @@ use mathlib.Core.List.{List}
 use lib.Bits.{bitAnd, bitOr}
 use lib.Dec.{eqb, leb, ltb}
 use lib.ListN.{length}
+use Rattle.model.specs.Basics.{pick}
 use Rattle.model.specs.Signature.{bitAt}
 use Rattle.model.specs.Tables.{widthOf, rootOf, freeOf, countOf, nextOf, filedOf, positionOf, leftOf, rightOf, signatureOf}
 use Rattle.model.specs.Sound.{filedUpTo, FitsAt}
@@ -17,11 +18,6 @@ use Rattle.audit.specs.declared.walk.Lent.{Lent}
 use Rattle.audit.specs.declared.walk.Part.{Part}
 use Rattle.audit.specs.declared.walk.Tested.{Tested}
 use Rattle.audit.specs.declared.node.Node.{Node}
-
--- the first of two where the test holds, else the second
-abbrev pub pick {ℓ} : {A : Type ℓ} → Bool → A → A → A
-pick true a b = a
-pick false a b = b
 
 -- question 4 says yes: B is told from the signatures' length, F from word 0
 abbrev pub Fits : List ℕ → List ℕ → Type 0

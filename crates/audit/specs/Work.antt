@@ -7,6 +7,7 @@ use mathlib.Core.List.{List}
 use lib.Bits.{bitAnd}
 use lib.Dec.{eqb, leb}
 use lib.ListN.{length}
+use Rattle.model.specs.Basics.{pick}
 use Rattle.model.specs.Tables.{widthOf, rootOf, freeOf, countOf, nextOf, leftOf, signatureOf}
 use Rattle.model.specs.Sound.{filedUpTo}
 use Rattle.model.specs.Questions.{asksTables, tablesFit}
@@ -14,7 +15,7 @@ use Rattle.audit.specs.declared.walk.Lent.{Lent}
 use Rattle.audit.specs.declared.walk.Part.{Part}
 use Rattle.audit.specs.declared.walk.Tested.{Tested}
 use Rattle.audit.specs.declared.node.Node.{Node}
-use Rattle.audit.specs.Audit.{pick, rowsOk, blockOk, lookTwin, passedBy, nodeLess, walkTwin, untestedAll, treeTwin, freeOk, lentTree}
+use Rattle.audit.specs.Audit.{rowsOk, blockOk, lookTwin, passedBy, nodeLess, walkTwin, untestedAll, treeTwin, freeOk, lentTree}
 
 -- nodes, and blocks on chains
 pub record Seen : Type 0 where

@@ -4,6 +4,7 @@ pub mod Stores
 pub mod Members
 pub mod Keep
 pub mod Asking
+pub mod Picks
 pub mod Sides
 pub mod Trees
 pub mod Paths

@@ -1,4 +1,4 @@
--- Small functions on lists of numbers that the other definitions share.
+-- Small functions that the other definitions share.
 -- Assumes nothing.
 use Prim.Native.Nat.{ℕ, zero, suc, _<_}
 use mathlib.Core.Bool.{Bool, true, false}
@@ -30,3 +30,8 @@ abbrev pub Ascending : List ℕ → Type 0
 Ascending [] = Unit {0}
 Ascending (x ∷ []) = Unit {0}
 Ascending (x ∷ y ∷ ys) = (x < y) × Ascending (y ∷ ys)
+
+-- the first of two where the test holds, else the second
+abbrev pub pick {ℓ} : {A : Type ℓ} → Bool → A → A → A
+pick true a b = a
+pick false a b = b

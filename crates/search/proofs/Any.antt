@@ -11,13 +11,13 @@ use lib.Dec.{eqb}
 use lib.ListN.{length, getD, drop, replicate, length-append, length-replicate, length-drop, getD-replicate, List·getD-append}
 use lib.Seq.{ext-getD, getD-drop, drop-at}
 use borrow.Author.Tests.{eqb-false, ne-eqb}
-use Rattle.model.specs.Basics.{upFrom}
+use Rattle.model.specs.Basics.{pick, upFrom}
 use Rattle.model.specs.Tables.{widthOf, rootOf}
 use Rattle.model.specs.Ledger.{Report, bare}
 use Rattle.model.specs.Promises.{unsound, marksAfter, Matches, Listing, GivenUp}
 use Rattle.search.specs.Budget.{Budget, lent}
 use Rattle.search.specs.Marks.{isMarked, listed, cleared}
-use Rattle.search.specs.Search.{pick, walkTwin, listTwin, foundTwin}
+use Rattle.search.specs.Search.{walkTwin, listTwin, foundTwin}
 use Rattle.model.proofs.Keep.{keep-none, upFrom-range}
 use Rattle.search.proofs.Keeps.{kept-ascends}
 use Rattle.search.proofs.Marks.{Grown, grown-none, Went, walk-went}

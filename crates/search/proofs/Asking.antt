@@ -21,11 +21,6 @@ ask-no : (n : ℕ) (t : Bool) (later : ℕ) → t ≡ false → ask n t later �
 unfolding ask
 ask-no n t later e = rw (e, ask)
 
-ask-most : (n k : ℕ) (t : Bool) (later : ℕ) → n ≤ k → later ≤ k → ask n t later ≤ k
-unfolding ask
-ask-most n k true later h g = g
-ask-most n k false later h g = h
-
 module _ (A : Asked) (q marks output : ℕ) where
   pub no-tables : tablesFit A ≡ false → 4 ≡ searchRefusal A q marks output
   unfolding searchRefusal
@@ -57,11 +52,7 @@ module _ (A : Asked) (q marks output : ℕ) where
       let c = ask-zero 8 (leb (A .blocks) marks) _ (b .1) in
       let d = ask-zero 9 (leb (A .blocks) output) 0 (c .1) in
       (a .0, ltb-true _ _ (b .0), leb-true _ _ (c .0), leb-true _ _ (d .0))
-
   -- no question has a larger number than 10
-  pub refusal-most : searchRefusal A q marks output ≤ 10
-  unfolding searchRefusal
-  refusal-most = ask-most 4 10 (tablesFit A) _ (omega arith) (ask-most 6 10 _ _ (omega arith) (ask-most 9 10 _ _ (omega arith) (ask-most 10 10 _ 0 (omega arith) (omega arith))))
 
 -- what the walk asks of its slices and the query, where no question refuses
 pub passed-sized : (sigs links marks output : List ℕ) (q : ℕ) → searchRefusal (asksTables sigs links) q (length marks) (length output) ≡ 0

@@ -8,6 +8,7 @@ use mathlib.Core.Logic.{_⊎_, inl, inr, ⊎-elim}
 use mathlib.Core.Bool.{Bool, true, false}
 use mathlib.Core.List.{List, [], _∷_, _++_, List·Memᴰ, List·Memᴰ·not-nil, List·Memᴰ·append-cases, Memᴰ·append-left, Memᴰ·append-right}
 use lib.ListN.{length, length-append}
+use Rattle.model.specs.Basics.{pick}
 use Rattle.model.proofs.Pigeon.{few-within}
 use Rattle.tables.proofs.Distinct.{chain-distinct}
 use Rattle.model.specs.Signature.{bitAt, coversb}
@@ -19,7 +20,6 @@ use Rattle.model.proofs.Pigeon.{Distinct, distinct-append}
 use Rattle.signature.proofs.Covering.{coversb-sound}
 use Rattle.tables.proofs.Shapes.{blocks-range, blocks-placed, blocks-apart}
 use Rattle.tables.proofs.Counts.{heads, heads-count, heads-blocks, heads-distinct}
-use Rattle.search.specs.Search.{pick}
 use Rattle.search.proofs.Shaped.{hits, reads, compares, reads-set, reads-clear, compares-set, compares-clear, hits-set, hits-clear}
 
 module _ (sigs : List ℕ) (F q : ℕ) where

@@ -5,9 +5,8 @@ use native.Mathlib.Omega.{arith}
 use mathlib.Core.Path.{_≡_, refl, sym, _∙_, ap, subst}
 use mathlib.Core.Bool.{Bool, true, false}
 use mathlib.Core.List.{List, [], _∷_, _++_}
-use Rattle.model.specs.Basics.{keep, upFrom, Ascending}
+use Rattle.model.specs.Basics.{pick, keep, upFrom, Ascending}
 use Rattle.model.proofs.Keep.{keep-yes, keep-no, keep-append, upFrom-last}
-use Rattle.search.specs.Search.{pick}
 
 -- no number, and one number more
 pub keep-empty : (test : ℕ → Bool) → keep test (upFrom 0 1) ≡ []

@@ -11,9 +11,9 @@ use lib.Bits.{bitOr, or-add-and, and-le-l, and-le-r}
 use lib.ListN.{length, getD, set, take, drop, length-append, length-set, take-append-drop}
 use lib.Seq.{getD-take, getD-drop, take-set-le, take-suc-set, drop-set-lt}
 use borrow.Author.Tests.{ne-eqb}
+use Rattle.model.specs.Basics.{pick}
 use Rattle.model.specs.Promises.{outputAfter}
 use Rattle.search.specs.Marks.{isMarked, listed, Lists, ListedPart}
-use Rattle.search.specs.Search.{pick}
 use Rattle.search.proofs.Keeps.{keep-empty, keep-last}
 
 -- an OR of 0 is of zeros

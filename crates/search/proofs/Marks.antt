@@ -12,18 +12,15 @@ use lib.Dec.{eqb, leb, ltb}
 use lib.ListN.{length, getD, length-set, length-append}
 use lib.Seq.{getD-set-same, getD-set-other}
 use borrow.Author.Tests.{eqb-false, eq-eqb, ltb-false}
+use Rattle.model.specs.Basics.{pick}
 use Rattle.model.specs.Signature.{bitAt, coversb}
 use Rattle.model.specs.Tables.{widthOf, nextOf, filedOf, leftOf, rightOf, signatureOf}
 use Rattle.model.specs.Promises.{Matches}
+use Rattle.model.proofs.Picks.{pick-false}
 use Rattle.search.specs.Budget.{Budget, unfit}
 use Rattle.search.specs.Marks.{isMarked, mark, listed}
-use Rattle.search.specs.Search.{pick, mayMark, chainStep, chainTwin, leafTwin, testedAt, sidesTwin, nodeTwin, walkTwin}
+use Rattle.search.specs.Search.{mayMark, chainStep, chainTwin, leafTwin, testedAt, sidesTwin, nodeTwin, walkTwin}
 use Rattle.search.proofs.Keeps.{keep-empty, keep-last}
-
--- a pick that gives true where its first case is false
-pub pick-false : (t b : Bool) → pick t false b ≡ true → (t ≡ false) × (b ≡ true)
-pick-false true b e = absurd (let z : _≡_ {A = ℕ} 0 1 = cc in omega arith)
-pick-false false b e = (refl, e)
 
 -- a block that may be marked is not marked, and matches
 pub may-matches : (sigs links : List ℕ) (q b : ℕ) (m : List ℕ) → mayMark sigs links q b m ≡ true → (isMarked m b ≡ false) × Matches sigs links q b

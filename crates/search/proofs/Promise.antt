@@ -1,8 +1,6 @@
 -- The search keeps its promise, on all inputs: a question refuses it, or it is exact on sound tables and lists or stops on any.
 -- Assumes nothing.
 use Prim.Native.Nat.{ℕ, _≤_}
-use native.Mathlib.Decide.{ℕ-discrete}
-use native.Mathlib.Omega.{arith}
 use mathlib.Core.Path.{_≡_, refl, sym, ap, subst}
 use mathlib.Core.Logic.{_≢_}
 use mathlib.Core.List.{List}
@@ -12,9 +10,8 @@ use Rattle.model.specs.Tables.{widthOf, treeOf}
 use Rattle.model.specs.Sound.{Sound}
 use Rattle.model.specs.Questions.{asksTables, searchRefusal}
 use Rattle.model.specs.Ledger.{Report, bare, ledgerOf, matching}
-use Rattle.model.specs.Promises.{unsound, outputAfter, SearchPromise}
+use Rattle.model.specs.Promises.{outputAfter, SearchPromise}
 use Rattle.search.specs.Search.{foundTwin}
-use Rattle.search.proofs.Asking.{refusal-most}
 use Rattle.search.proofs.Any.{lists-or-stops}
 use Rattle.search.proofs.Exact.{search-exact}
 
@@ -38,16 +35,6 @@ module _ (sigs links : List ℕ) (q : ℕ) (m out : List ℕ) where
 
 -- What the promise says of sound tables, each by itself. Here o is what the search reported.
 module _ (sigs links : List ℕ) (q : ℕ) (m out : List ℕ) (o : Report) (m′ out′ : List ℕ) (P : SearchPromise sigs links q m out o m′ out′) (S : Sound sigs links) where
-  -- sound tables never get 11
-  pub never-eleven : o .answer ≢ unsound
-  never-eleven e = go (ℕ-discrete (refusal sigs links q m out) 0)
-    where
-      go : Dec (refusal sigs links q m out ≡ 0) → ⊥
-      go (yes z) = let a : o .answer ≡ 0 = ap (λ (r : Report). r .answer) (P .done z S .0) in omega arith
-      go (no n) =
-          let a : o .answer ≡ searchRefusal (asksTables sigs links) q (length m) (length out) = ap (λ (r : Report). r .answer) (P .refused n .0) in
-          omega (arith, refusal-most (asksTables sigs links) q (length m) (length out))
-
   module _ (z : refusal sigs links q m out ≡ 0) where
     -- the output starts with the ledger's matching blocks, and `found` counts them
     pub lists-matching : (out′ ≡ outputAfter (matching q (ledgerOf sigs links)) out) × (o .found ≡ length (matching q (ledgerOf sigs links)))

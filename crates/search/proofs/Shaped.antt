@@ -10,6 +10,7 @@ use mathlib.Core.List.{List, [], _∷_, _++_, List·Memᴰ, List·Memᴰ·head, 
 use lib.Dec.{eqb}
 use lib.ListN.{length, length-append}
 use borrow.Author.Tests.{eq-eqb, ne-eqb, le-ltb, lt-leb}
+use Rattle.model.specs.Basics.{pick}
 use Rattle.model.specs.Signature.{bitAt, coversb}
 use Rattle.model.specs.Tree.{goesLeft, Edge, edge, compared, nodesRead}
 use Rattle.model.specs.Tables.{widthOf, nextOf, filedOf, positionOf, leftOf, rightOf, signatureOf}
@@ -18,7 +19,7 @@ use Rattle.model.proofs.Bits.{bit-cases}
 use Rattle.tables.proofs.Trees.{depth, treeShape}
 use Rattle.search.specs.Budget.{Budget}
 use Rattle.search.specs.Marks.{isMarked, mark}
-use Rattle.search.specs.Search.{pick, mayMark, chainTwin, leafTwin, testedAt, walkTwin}
+use Rattle.search.specs.Search.{mayMark, chainTwin, leafTwin, testedAt, walkTwin}
 use Rattle.search.proofs.Steps.{chain-end, chain-mark, leaf-passed, leaf-chain, walk-leaf, walk-right, walk-both}
 
 -- blocks marked in turn

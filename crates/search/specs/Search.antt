@@ -8,6 +8,7 @@ use mathlib.Core.List.{List}
 use lib.Dec.{eqb, leb, ltb}
 use lib.ListN.{length}
 use denote.Ref.{RefT}
+use Rattle.model.specs.Basics.{pick}
 use Rattle.model.specs.Limits.{widest, mostBlocks}
 use Rattle.model.specs.Signature.{bitAt, coversb}
 use Rattle.model.specs.Tables.{linksOf, widthOf, rootOf, nextOf, filedOf, positionOf, leftOf, rightOf, signatureOf}
@@ -15,11 +16,6 @@ use Rattle.model.specs.Ledger.{Report, bare}
 use Rattle.model.specs.Promises.{unsound, outputAfter}
 use Rattle.search.specs.Budget.{Budget, unfit, lent}
 use Rattle.search.specs.Marks.{isMarked, mark, listed, cleared}
-
--- the first of two where the test holds, else the second
-abbrev pub pick {ℓ} : {A : Type ℓ} → Bool → A → A → A
-pick true a b = a
-pick false a b = b
 
 -- what the walk asks of the slices and the query, besides fitting words
 pub record Sized (sigs links marks : List ℕ) (q : ℕ) : Type 0 where

@@ -9,7 +9,7 @@ use borrow.Author.Tests.{not-true, not-false}
 use borrow.Author.Needs.{needs}
 use Rattle.model.specs.Sound.{filedUpTo}
 use Rattle.audit.specs.Audit.{rowsOk}
-use Rattle.audit.proofs.Picks.{no-bool}
+use Rattle.model.proofs.Picks.{no-bool}
 use Rattle.audit.proofs.RowLaws.{row-yes, rows-step, rows-fail, filed-step}
 use Rattle.audit.proofs.rows.check_rows.Statement.{statement}
 use Rattle.audit.proofs.rows.check_rows.Tie as tie

@@ -1,13 +1,12 @@
 -- What a choice that gives true says of its test.
 -- Assumes nothing.
-use Prim.Native.Nat.{ℕ}
-use native.Mathlib.Omega.{arith}
 use mathlib.Core.Path.{_≡_, refl}
 use mathlib.Core.Bool.{Bool, true, false}
-use Rattle.audit.specs.Audit.{pick}
+use Rattle.model.specs.Basics.{pick}
+use Rattle.model.proofs.Asking.{true-false}
 
 pub no-bool : {A : Type 0} → _≡_ {A = Bool} false true → A
-no-bool e = absurd (let z : _≡_ {A = ℕ} 0 1 = cc in omega arith)
+no-bool e = true-false e refl
 
 pub pick-false : (t b : Bool) → pick t false b ≡ true → (t ≡ false) × (b ≡ true)
 pick-false true b e = no-bool e
