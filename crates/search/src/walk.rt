@@ -139,7 +139,8 @@ fn walk(
     visit(signatures, links, marks, query, right, untested - 1, rest)
 }
 
-// The tree at a root that is a node. The marks are taken and handed back: what is behind a reference to them is theirs for the walk.
+// The tree at a root that is a node. The marks are taken and handed back: a function that is only lent them could not lend its own
+// reference on.
 fn walk_root<'a>(
     signatures: &[u64],
     links: &[u32],
@@ -154,6 +155,7 @@ fn walk_root<'a>(
 {
     let mut lent = marks;
     *left = walk(&signatures, &links, &mut lent, query, root, untested, *left);
+    // moved, so that what is handed back is the loan itself and not a new one of it
     let back = lent;
     back
 }
