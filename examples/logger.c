@@ -7,10 +7,12 @@
 
 enum { BLOCKS = 6, WIDTH = 24, POSITIONS = 3 };
 
-static uint64_t signatures[BLOCKS];
+static uint64_t signatures[BLOCKS], nodes[SIGTREE_NODES(BLOCKS)];
 static uint32_t links[SIGTREE_LINKS(BLOCKS)];
 static uint32_t scratch[BLOCKS], output[BLOCKS];
 static uint8_t marks[BLOCKS];
+
+#define TABLES signatures, BLOCKS, links, SIGTREE_LINKS(BLOCKS), nodes, SIGTREE_NODES(BLOCKS)
 
 static const char *const minutes[BLOCKS] = {
     "drift step", "drift", "leap pending", "step backup", "drift step leap", "quiet",
@@ -25,27 +27,26 @@ static uint64_t sign(const char *text) {
 
 static void sell(const char *query) {
     uint32_t found, compares, bits_read;
-    uint32_t answer = sigtree_search(signatures, BLOCKS, links, SIGTREE_LINKS(BLOCKS), sign(query), marks, BLOCKS, output, BLOCKS,
-                                     &found, &compares, &bits_read);
+    uint32_t answer = sigtree_search(TABLES, sign(query), marks, BLOCKS, output, BLOCKS, &found, &compares, &bits_read);
     printf("search \"%s\": answer %" PRIu32 ", %" PRIu32 " compares, blocks", query, answer, compares);
     for (uint32_t i = 0; i < found; i++) printf(" %" PRIu32, output[i]);
     printf("\n");
 }
 
 int main(void) {
-    printf("clear: %" PRIu32 "\n", sigtree_clear(signatures, BLOCKS, links, SIGTREE_LINKS(BLOCKS), WIDTH));
+    printf("clear: %" PRIu32 "\n", sigtree_clear(TABLES, WIDTH));
     for (uint32_t block = 1; block <= BLOCKS; block++) {
-        uint32_t answer = sigtree_file(signatures, BLOCKS, links, SIGTREE_LINKS(BLOCKS), block, sign(minutes[block - 1]));
+        uint32_t answer = sigtree_file(TABLES, block, sign(minutes[block - 1]));
         printf("file %" PRIu32 " \"%s\": %" PRIu32 "\n", block, minutes[block - 1], answer);
     }
     sell("drift");
     sell("step");
     sell("leap step");
-    printf("withdraw 2: %" PRIu32 "\n", sigtree_withdraw(signatures, BLOCKS, links, SIGTREE_LINKS(BLOCKS), 2));
-    printf("rebuild: %" PRIu32 "\n", sigtree_rebuild(signatures, BLOCKS, links, SIGTREE_LINKS(BLOCKS), scratch, BLOCKS));
+    printf("withdraw 2: %" PRIu32 "\n", sigtree_withdraw(TABLES, 2));
+    printf("rebuild: %" PRIu32 "\n", sigtree_rebuild(TABLES, scratch, BLOCKS));
     sell("drift");
-    printf("audit: %" PRIu32 "\n", sigtree_audit(signatures, BLOCKS, links, SIGTREE_LINKS(BLOCKS)));
-    links[4] += 1;
-    printf("audit with a word written over: %" PRIu32 "\n", sigtree_audit(signatures, BLOCKS, links, SIGTREE_LINKS(BLOCKS)));
+    printf("audit: %" PRIu32 "\n", sigtree_audit(TABLES));
+    nodes[0] ^= 1;
+    printf("audit with a node written over: %" PRIu32 "\n", sigtree_audit(TABLES));
     return 0;
 }

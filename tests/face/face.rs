@@ -1,5 +1,8 @@
 //! The C face, with every slice lent between guard words.
 use crate::c_face::*;
+use crate::guarded::Guarded;
+use crate::packed::Packed;
+use crate::request::{Call, Request};
 use crate::rng::Rng;
 
 #[derive(Clone, Debug, PartialEq, Eq)]
@@ -14,33 +17,9 @@ impl Report {
     pub fn bare(answer: u32) -> Report {
         Report { answer, found: 0, compares: 0, bits: 0 }
     }
-}
-
-const GUARD: usize = 8;
-
-#[derive(Clone, Debug, PartialEq, Eq)]
-struct Guarded<T> {
-    words: Vec<T>,
-    guard: T,
-}
-
-impl<T: Copy + PartialEq> Guarded<T> {
-    fn new(data: Vec<T>, guard: T) -> Guarded<T> {
-        let mut words = vec![guard; GUARD];
-        words.extend(data);
-        words.extend(vec![guard; GUARD]);
-        Guarded { words, guard }
-    }
-    fn data(&self) -> &[T] {
-        &self.words[GUARD..self.words.len() - GUARD]
-    }
-    fn data_mut(&mut self) -> &mut [T] {
-        let end = self.words.len() - GUARD;
-        &mut self.words[GUARD..end]
-    }
-    fn kept(&self) -> bool {
-        let end = self.words.len() - GUARD;
-        self.words[..GUARD].iter().chain(&self.words[end..]).all(|w| *w == self.guard)
+    /// Counts that a call has to set.
+    fn unset() -> Report {
+        Report { answer: 77, found: 77, compares: 77, bits: 77 }
     }
 }
 
@@ -49,103 +28,112 @@ impl<T: Copy + PartialEq> Guarded<T> {
 pub struct Lent {
     signatures: Guarded<u64>,
     links: Guarded<u32>,
+    nodes: Guarded<u64>,
     scratch: Guarded<u32>,
     marks: Guarded<u8>,
     output: Guarded<u32>,
+    null: bool,
 }
 
+/// The tables as a call takes them.
+type Slices = (*mut u64, usize, *mut u32, usize, *mut u64, usize);
+
 impl Lent {
-    pub fn new(signatures: &[u64], links: &[u32], scratch: usize, marks: usize, output: usize, rng: &mut Rng) -> Lent {
+    pub fn new(p: &Packed, r: &Request, rng: &mut Rng) -> Lent {
+        let mut words = |n: usize| (0..n).map(|_| rng.next() as u32).collect::<Vec<u32>>();
+        let marks: Vec<u8> = words(r.marks).iter().map(|w| *w as u8).collect();
         Lent {
-            signatures: Guarded::new(signatures.to_vec(), 0x5a5a_5a5a_5a5a_5a5a),
-            links: Guarded::new(links.to_vec(), 0xa5a5_a5a5),
-            scratch: Guarded::new((0..scratch).map(|_| rng.next() as u32).collect(), 0xc3c3_c3c3),
-            marks: Guarded::new((0..marks).map(|_| rng.next() as u8).collect(), 0x3c),
-            output: Guarded::new((0..output).map(|_| rng.next() as u32).collect(), 0x9696_9696),
+            signatures: Guarded::new(&p.signatures, 0x5a5a_5a5a_5a5a_5a5a),
+            links: Guarded::new(&p.links, 0xa5a5_a5a5),
+            nodes: Guarded::new(&p.nodes, 0x6969_6969_6969_6969),
+            scratch: Guarded::new(&words(r.scratch), 0xc3c3_c3c3),
+            marks: Guarded::new(&marks, 0x3c),
+            output: Guarded::new(&words(r.output), 0x9696_9696),
+            null: r.null,
         }
     }
     pub fn guards(&self) -> Result<(), String> {
-        let kept = self.signatures.kept() && self.links.kept() && self.scratch.kept() && self.marks.kept() && self.output.kept();
+        let tables = self.signatures.kept() && self.links.kept() && self.nodes.kept();
+        let kept = tables && self.scratch.kept() && self.marks.kept() && self.output.kept();
         if kept { Ok(()) } else { Err("a guard word has changed".into()) }
     }
-    pub fn signatures(&self) -> &[u64] {
-        self.signatures.data()
+    pub fn tables(&self) -> Packed {
+        Packed { signatures: self.signatures.data().to_vec(), links: self.links.data().to_vec(), nodes: self.nodes.data().to_vec() }
     }
-    pub fn links(&self) -> &[u32] {
-        self.links.data()
-    }
-    pub fn scratch(&self) -> &[u32] {
-        self.scratch.data()
-    }
-    pub fn scratch_mut(&mut self) -> &mut [u32] {
-        self.scratch.data_mut()
-    }
-    pub fn marks(&self) -> &[u8] {
-        self.marks.data()
-    }
-    pub fn marks_mut(&mut self) -> &mut [u8] {
-        self.marks.data_mut()
+    pub fn set_tables(&mut self, p: &Packed) {
+        self.signatures.data_mut().copy_from_slice(&p.signatures);
+        self.links.data_mut().copy_from_slice(&p.links);
+        self.nodes.data_mut().copy_from_slice(&p.nodes);
     }
     pub fn output(&self) -> &[u32] {
         self.output.data()
     }
-    pub fn set_tables(&mut self, signatures: &[u64], links: &[u32]) {
-        self.signatures.data_mut().copy_from_slice(signatures);
-        self.links.data_mut().copy_from_slice(links);
+    /// Takes over the first words of the scratch, which a rebuild leaves free, from what a call left.
+    pub fn free_scratch(&mut self, left: &Lent, blocks: usize) {
+        self.scratch.data_mut()[..blocks].copy_from_slice(&left.scratch.data()[..blocks]);
+    }
+    /// Takes over the first marks, which a search that gives up leaves free.
+    pub fn free_marks(&mut self, left: &Lent, blocks: usize) {
+        self.marks.data_mut()[..blocks].copy_from_slice(&left.marks.data()[..blocks]);
     }
     /// The marks and the output of a list of blocks.
     pub fn list(&mut self, list: &[u32], blocks: usize) {
-        for b in 1..=blocks {
-            self.marks.data_mut()[b - 1] = list.contains(&(b as u32)) as u8;
-        }
+        let marks = &mut self.marks.data_mut()[..blocks];
+        marks.fill(0);
+        list.iter().for_each(|&b| marks[b as usize - 1] = 1);
         self.output.data_mut()[..list.len()].copy_from_slice(list);
     }
 
-    fn tables(&mut self) -> (*mut u64, usize, *mut u32, usize) {
-        let (s, l) = (self.signatures.data_mut(), self.links.data_mut());
-        (s.as_mut_ptr(), s.len(), l.as_mut_ptr(), l.len())
+    pub fn run(&mut self, call: &Call) -> Report {
+        match call {
+            Call::Clear(width) => Report::bare(self.clear(*width)),
+            Call::File(b, s) => Report::bare(self.file(*b, *s)),
+            Call::Withdraw(b) => Report::bare(self.withdraw(*b)),
+            Call::Rebuild => Report::bare(self.rebuild()),
+            Call::Search(q) => self.search(*q),
+            Call::Audit => Report::bare(self.audit()),
+            Call::Slip(bytes) => self.slip(bytes),
+        }
     }
-    pub fn clear(&mut self, width: u32) -> Report {
-        let (s, n, l, m) = self.tables();
-        Report::bare(unsafe { sigtree_clear(s, n, l, m, width) })
+    fn lend(&mut self) -> Slices {
+        let ((s, n), (l, m), (d, e)) = (self.signatures.lend(self.null), self.links.lend(self.null), self.nodes.lend(self.null));
+        (s, n, l, m, d, e)
     }
-    pub fn file(&mut self, block: u32, signature: u64) -> Report {
-        let (s, n, l, m) = self.tables();
-        Report::bare(unsafe { sigtree_file(s, n, l, m, block, signature) })
+    pub fn clear(&mut self, width: u32) -> u32 {
+        let (s, n, l, m, d, e) = self.lend();
+        unsafe { sigtree_clear(s, n, l, m, d, e, width) }
     }
-    pub fn withdraw(&mut self, block: u32) -> Report {
-        let (s, n, l, m) = self.tables();
-        Report::bare(unsafe { sigtree_withdraw(s, n, l, m, block) })
+    pub fn file(&mut self, block: u32, signature: u64) -> u32 {
+        let (s, n, l, m, d, e) = self.lend();
+        unsafe { sigtree_file(s, n, l, m, d, e, block, signature) }
     }
-    pub fn rebuild(&mut self) -> Report {
-        let (s, n, l, m) = self.tables();
-        let c = self.scratch.data_mut();
-        Report::bare(unsafe { sigtree_rebuild(s, n, l, m, c.as_mut_ptr(), c.len()) })
+    pub fn withdraw(&mut self, block: u32) -> u32 {
+        let (s, n, l, m, d, e) = self.lend();
+        unsafe { sigtree_withdraw(s, n, l, m, d, e, block) }
     }
-    pub fn audit(&mut self) -> Report {
-        let (s, n, l, m) = self.tables();
-        Report::bare(unsafe { sigtree_audit(s, n, l, m) })
+    pub fn rebuild(&mut self) -> u32 {
+        let (s, n, l, m, d, e) = self.lend();
+        let (c, k) = self.scratch.lend(self.null);
+        unsafe { sigtree_rebuild(s, n, l, m, d, e, c, k) }
+    }
+    pub fn audit(&mut self) -> u32 {
+        let (s, n, l, m, d, e) = self.lend();
+        unsafe { sigtree_audit(s, n, l, m, d, e) }
     }
     pub fn search(&mut self, query: u64) -> Report {
-        let (s, n, l, m) = self.tables();
-        let (k, o) = (self.marks.data_mut(), self.output.data_mut());
-        let mut r = Report { answer: 0, found: 77, compares: 77, bits: 77 };
-        r.answer = unsafe {
-            sigtree_search(
-                s, n, l, m, query, k.as_mut_ptr(), k.len(), o.as_mut_ptr(), o.len(), &mut r.found, &mut r.compares, &mut r.bits,
-            )
-        };
+        let (s, n, l, m, d, e) = self.lend();
+        let ((k, j), (o, i)) = (self.marks.lend(self.null), self.output.lend(self.null));
+        let mut r = Report::unset();
+        r.answer = unsafe { sigtree_search(s, n, l, m, d, e, query, k, j, o, i, &mut r.found, &mut r.compares, &mut r.bits) };
         r
     }
     pub fn slip(&mut self, bytes: &[u8]) -> Report {
-        let (s, n, l, m) = self.tables();
-        let (c, k, o) = (self.scratch.data_mut(), self.marks.data_mut(), self.output.data_mut());
-        let mut r = Report { answer: 0, found: 77, compares: 77, bits: 77 };
+        let (s, n, l, m, d, e) = self.lend();
+        let ((c, h), (k, j), (o, i)) = (self.scratch.lend(self.null), self.marks.lend(self.null), self.output.lend(self.null));
+        let (slip, length) = (bytes.as_ptr(), bytes.len());
+        let mut r = Report::unset();
         r.answer = unsafe {
-            sigtree_slip(
-                bytes.as_ptr(), bytes.len(), s, n, l, m, c.as_mut_ptr(), c.len(), k.as_mut_ptr(), k.len(), o.as_mut_ptr(), o.len(),
-                &mut r.found, &mut r.compares, &mut r.bits,
-            )
+            sigtree_slip(slip, length, s, n, l, m, d, e, c, h, k, j, o, i, &mut r.found, &mut r.compares, &mut r.bits)
         };
         r
     }

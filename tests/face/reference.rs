@@ -1,5 +1,6 @@
-//! An independent reading of the customer's request, for tests alone: exact tables, ledger, soundness. No code of the library.
-use std::collections::{BTreeMap, BTreeSet};
+//! An independent reading of the customer's request, for tests alone: the tables of 5B + 2 links, and what each call leaves in them,
+//! word for word. No code of the library.
+use std::collections::BTreeMap;
 
 pub const MOST_BLOCKS: usize = 65535;
 
@@ -16,20 +17,6 @@ pub fn below(width: u32, s: u64) -> bool {
 pub struct Tables {
     pub signatures: Vec<u64>,
     pub links: Vec<u32>,
-}
-
-/// What a search reports.
-#[derive(Clone, Debug, PartialEq, Eq, Default)]
-pub struct Found {
-    pub blocks: Vec<u32>,
-    pub compares: u32,
-    pub bits: u32,
-}
-
-#[derive(Clone, Debug)]
-pub enum Tree {
-    Leaf(u64),
-    Node(u32, Box<Tree>, Box<Tree>),
 }
 
 impl Tables {
@@ -60,16 +47,15 @@ impl Tables {
     }
 
     pub fn cleared(blocks: usize, width: u32) -> Tables {
-        let mut links = vec![0; 5 * blocks + 2];
-        links[0] = width;
-        links[1] = blocks as u32;
-        links[3] = if blocks > 1 { 1 } else { 0 };
-        let t = Tables { signatures: vec![0; blocks], links };
-        let mut links = t.links.clone();
+        let mut t = Tables { signatures: vec![0; blocks], links: vec![0; 5 * blocks + 2] };
+        t.links[0] = width;
+        t.links[1] = blocks as u32;
+        t.links[3] = if blocks > 1 { 1 } else { 0 };
         for i in 1..blocks {
-            links[t.node_at(i) + 1] = if i + 1 < blocks { i as u32 + 1 } else { 0 };
+            let row = t.node_at(i);
+            t.links[row + 1] = if i + 1 < blocks { i as u32 + 1 } else { 0 };
         }
-        Tables { signatures: t.signatures, links }
+        t
     }
 
     /// The addresses of the references that the walk by s passes; the last holds a leaf or nothing. Sound tables only.
@@ -137,11 +123,6 @@ impl Tables {
         self.links[4] -= 1;
     }
 
-    /// The filed blocks with their signatures.
-    pub fn ledger(&self) -> BTreeMap<usize, u64> {
-        (1..=self.blocks()).filter(|&b| self.filed(b)).map(|b| (b, self.signatures[b - 1])).collect()
-    }
-
     fn heads(&self, r: usize, heads: &mut BTreeMap<u64, u32>) {
         if r == 0 {
         } else if r <= self.blocks() {
@@ -188,126 +169,5 @@ impl Tables {
             let row = self.node_at(i);
             self.links[row..row + 3].copy_from_slice(&[0, chain(i + 1), 0]);
         }
-    }
-
-    pub fn tree(&self, r: usize) -> Option<Tree> {
-        if r == 0 {
-            return None;
-        }
-        if r <= self.blocks() {
-            return Some(Tree::Leaf(self.signatures[r - 1]));
-        }
-        let row = self.node_at(r - self.blocks());
-        let side = |e: usize| Box::new(self.tree(self.links[row + 1 + e] as usize).unwrap());
-        Some(Tree::Node(self.links[row], side(0), side(1)))
-    }
-
-    /// The list by a scan of the ledger; the counts by the paths of the tree. Sound tables only.
-    pub fn search(&self, q: u64) -> Found {
-        fn paths(t: &Tree, path: &mut Vec<(u32, u64)>, all: &mut Vec<(u64, Vec<(u32, u64)>)>) {
-            match t {
-                Tree::Leaf(s) => all.push((*s, path.clone())),
-                Tree::Node(p, left, right) => {
-                    for (e, side) in [(0, left), (1, right)] {
-                        path.push((*p, e));
-                        paths(side, path, all);
-                        path.pop();
-                    }
-                }
-            }
-        }
-        let blocks = self.ledger().into_iter().filter(|&(_, s)| s & q == q).map(|(b, _)| b as u32).collect();
-        let mut all = Vec::new();
-        if let Some(t) = self.tree(self.links[2] as usize) {
-            paths(&t, &mut Vec::new(), &mut all);
-        }
-        let mut nodes = BTreeSet::new();
-        let mut compares = 0;
-        for (s, path) in all {
-            assert!(path.iter().all(|&(p, e)| bit(self.width(), s, p) == e), "a leaf disagrees with its path");
-            if path.iter().all(|&(p, e)| e == 1 || bit(self.width(), q, p) == 0) {
-                compares += 1;
-                for n in 0..path.len() {
-                    nodes.insert(path[..n].to_vec());
-                }
-            }
-        }
-        Found { blocks, compares, bits: nodes.len() as u32 }
-    }
-
-    /// Soundness, clause by clause.
-    pub fn sound(&self) -> bool {
-        if !self.fit() {
-            return false;
-        }
-        let (blocks, width) = (self.blocks(), self.width());
-        let mut chained = BTreeSet::new();
-        let mut nodes = BTreeSet::new();
-        if self.links[2] != 0 && !self.reference_sound(self.links[2] as usize, &mut Vec::new(), &mut chained, &mut nodes) {
-            return false;
-        }
-        let mut filed = 0;
-        for b in 1..=blocks {
-            let s = self.signatures[b - 1];
-            if !below(width, s) {
-                return false;
-            }
-            match self.links[Tables::filed_at(b)] {
-                0 if s == 0 && self.links[Tables::next_at(b)] == 0 => {}
-                1 if chained.contains(&b) => filed += 1,
-                _ => return false,
-            }
-        }
-        if self.links[4] != filed || (self.links[2] == 0) != (filed == 0) {
-            return false;
-        }
-        let mut free = BTreeSet::new();
-        let mut i = self.links[3] as usize;
-        while i != 0 {
-            if i >= blocks || nodes.contains(&i) || !free.insert(i) {
-                return false;
-            }
-            let row = self.node_at(i);
-            if self.links[row] != 0 || self.links[row + 2] != 0 {
-                return false;
-            }
-            i = self.links[row + 1] as usize;
-        }
-        nodes.len() + free.len() == blocks - 1
-    }
-
-    fn reference_sound(&self, r: usize, path: &mut Vec<(u32, u64)>, chained: &mut BTreeSet<usize>, nodes: &mut BTreeSet<usize>) -> bool {
-        let (blocks, width) = (self.blocks(), self.width());
-        if r == 0 || r >= 2 * blocks {
-            return false;
-        }
-        if r <= blocks {
-            let s = self.signatures[r - 1];
-            if !path.iter().all(|&(p, e)| bit(width, s, p) == e) {
-                return false;
-            }
-            let mut b = r;
-            while b != 0 {
-                if b > blocks || self.links[Tables::filed_at(b)] != 1 || self.signatures[b - 1] != s || !chained.insert(b) {
-                    return false;
-                }
-                b = self.links[Tables::next_at(b)] as usize;
-            }
-            return true;
-        }
-        let row = self.node_at(r - blocks);
-        let p = self.links[row];
-        if p < 1 || p > width || path.iter().any(|&(x, _)| x == p) || !nodes.insert(r - blocks) {
-            return false;
-        }
-        for e in 0..2 {
-            path.push((p, e));
-            let sound = self.reference_sound(self.links[row + 1 + e as usize] as usize, path, chained, nodes);
-            path.pop();
-            if !sound {
-                return false;
-            }
-        }
-        true
     }
 }

@@ -1,6 +1,7 @@
 """An independent reading of the customer's request (document 01), for tests alone: no code of the library is used.
 
-Index keeps the ledger and the two tables, word for word. A search's list comes from a linear scan of the ledger; its counts come from
+Index keeps the ledger and the tables in the form of 5B + 2 links, word for word: the form that the request's rules are about. sigrun's
+tables have one word per node, and its lines are the same. A search's list comes from a linear scan of the ledger; its counts come from
 the paths of the plain tree. The tables come from walking the links as the request tells it. `check` holds the three to each other.
 """
 
@@ -24,7 +25,7 @@ def best_position(width, group):
 
 
 class Index:
-    """Tables of `blocks` blocks; `links` and `signatures` are plain lists, all 0 at the start."""
+    """Tables of `blocks` blocks; `signatures` and the 5B + 2 `links` are plain lists, all 0 at the start."""
 
     def __init__(self, blocks):
         self.blocks = blocks

@@ -34,6 +34,9 @@ module _ (L : List ℕ) (B r : ℕ) where
   pub free-in : freeOk L B r ≡ true → r < B
   free-in e = free-is e .below
 
+  pub free-from-one : freeOk L B r ≡ true → 1 ≤ r
+  free-from-one e = free-is e .from
+
   -- the test of a node, as the code takes it
   pub free-zero : r ≡ 0 → freeOk L B r ≡ false
   unfolding freeOk

@@ -12,3 +12,4 @@ pub mod WalkWhole
 pub mod Verdict
 pub mod Work
 mod Examples
+pub mod Either

@@ -12,14 +12,14 @@ use lib.Dec.{eqb}
 use lib.ListN.{length, length-append}
 use borrow.Author.Tests.{eq-eqb, eqb-true}
 use Rattle.model.specs.Tables.{widthOf, freeOf, countOf, filedOf}
-use Rattle.model.specs.Sound.{nodesIn, blocksIn, filedUpTo, Sound}
+use Rattle.model.specs.Sound.{nodesIn, blocksIn, filedUpTo, Sound, FitsAt}
 use Rattle.model.specs.Questions.{asksTables, tablesFit, ask, auditRefusal}
 use Rattle.model.specs.Promises.{unsound, AuditPromise}
 use Rattle.model.proofs.Pigeon.{distinct-fits, downFrom, downFrom-length, downFrom-range, downFrom-has, downFrom-distinct}
 use Rattle.model.proofs.Members.{full}
 use Rattle.tables.proofs.Fits.{fits-of}
 use Rattle.audit.specs.declared.walk.Part.{Part}
-use Rattle.audit.specs.Audit.{Fits, rowsOk, treeTwin, lentTree, soundb, auditTwin}
+use Rattle.audit.specs.Audit.{rowsOk, treeTwin, lentTree, soundb, auditTwin}
 use Rattle.model.proofs.Picks.{no-bool, pick-true}
 use Rattle.audit.proofs.RowLaws.{rows-yes, rows-whole}
 use Rattle.audit.proofs.FreeLaws.{free-yes, free-whole}
@@ -29,7 +29,7 @@ use Rattle.audit.proofs.WalkYes.{tree-yes}
 use Rattle.audit.proofs.WalkWhole.{tree-whole}
 
 -- the test says yes on tables that fit: they are sound
-pub yes-sound : (S L : List ℕ) → Fits S L → soundb S L ≡ true → Sound S L
+pub yes-sound : (S L : List ℕ) → FitsAt (length S) (widthOf L) S L → soundb S L ≡ true → Sound S L
 unfolding soundb
 yes-sound S L fit e =
     let B : ℕ = length S in

@@ -1,7 +1,7 @@
 -- What the audit answers, as functions of the words of the two slices: a definition for each function of the code, step by step.
 -- That its yes means Sound, both ways, is proved in proofs/Verdict.antt.
 -- Assumes nothing.
-use Prim.Native.Nat.{ℕ, zero, suc, _-_, _^_}
+use Prim.Native.Nat.{ℕ, zero, suc, _-_, _^_, _≤_}
 use mathlib.Core.Bool.{Bool, true, false}
 use mathlib.Core.List.{List}
 use lib.Bits.{bitAnd, bitOr}
@@ -10,7 +10,10 @@ use lib.ListN.{length}
 use Rattle.model.specs.Basics.{pick}
 use Rattle.model.specs.Signature.{bitAt}
 use Rattle.model.specs.Tables.{widthOf, rootOf, freeOf, countOf, nextOf, filedOf, positionOf, leftOf, rightOf, signatureOf}
-use Rattle.model.specs.Sound.{filedUpTo, FitsAt}
+use Rattle.model.specs.Sound.{filedUpTo}
+use Rattle.model.specs.Limits.{mostBlocks, widest}
+use Rattle.model.specs.Packed.{rowsOf}
+use Rattle.tables.specs.Fits.{Forms}
 use Rattle.model.specs.Questions.{asksTables, tablesFit}
 use Rattle.model.specs.Promises.{unsound}
 use Rattle.audit.specs.declared.chain.Chained.{Chained}
@@ -19,9 +22,17 @@ use Rattle.audit.specs.declared.walk.Part.{Part}
 use Rattle.audit.specs.declared.walk.Tested.{Tested}
 use Rattle.audit.specs.declared.node.Node.{Node}
 
--- question 4 says yes: B is told from the signatures' length, F from word 0
-abbrev pub Fits : List ℕ → List ℕ → Type 0
-Fits sigs links = FitsAt (length sigs) (widthOf links) sigs links
+-- the five words and the rows stand inside the links, and the width is one
+pub record RowsFit (sigs links : List ℕ) : Type 0 where
+  pub blocks-from : 1 ≤ length sigs
+  pub blocks-to : length sigs ≤ mostBlocks
+  pub rows-long : rowsOf (length sigs) ≤ length links
+  pub width-to : widthOf links ≤ widest
+
+-- tables in either form, of which question 4 says yes
+pub record Fits (sigs links nodes : List ℕ) : Type 0 where
+  pub form : Forms (length sigs) links nodes
+  pub rows : RowsFit sigs links
 
 -- Rows. One with signature s, next block x and filed word f at width F: the signature is narrow; filed is 1, or all three are 0
 unfoldable pub rowOk : ℕ → ℕ → ℕ → ℕ → Bool

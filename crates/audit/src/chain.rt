@@ -1,7 +1,7 @@
 // The chain of a leaf: filed blocks of one signature. It ends on any words, since each block takes one of those lent.
 ghost use mathlib.Core.Path.{_≡_};
 ghost use Prim.Native.Nat.{_<_};
-ghost use Rattle.audit.specs.Audit.{Fits, blockOk, stuck, chainTwin};
+ghost use Rattle.audit.specs.Audit.{RowsFit, blockOk, stuck, chainTwin};
 use tables::rows::filed_of;
 use tables::rows::next_of;
 use tables::rows::signature_of;
@@ -25,7 +25,7 @@ pub(crate) fn no_chain() -> Chained
 
 // Whether the block may stand on the chain of the signature: it is filed, and has that signature.
 pub(crate) fn on_chain(signatures: &[u64], links: &[u32], signature: u64, block: usize) -> bool
-    requires { ⌜ Fits (now signatures) (now links) ⌝ }
+    requires { ⌜ RowsFit (now signatures) (now links) ⌝ }
     requires { ⌜ 0 < block ⌝ }
     ensures { λ r. ⌜ r ≡ blockOk (now (signatures .entry)) (now (links .entry)) signature block ⌝ }
 {
@@ -46,7 +46,7 @@ pub(crate) fn follow(
     head: u32,
     lent: u32,
 ) -> Chained
-    requires { ⌜ Fits (now signatures) (now links) ⌝ }
+    requires { ⌜ RowsFit (now signatures) (now links) ⌝ }
     ensures { λ r. ⌜ r ≡ chainTwin lent (now (signatures .entry)) (now (links .entry)) signature head ⌝ }
 {
     let mut block = head as usize;

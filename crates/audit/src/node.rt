@@ -1,12 +1,12 @@
 // A node that the walk meets: it tests a position 1 to the width that was not tested above it.
 ghost use mathlib.Core.Path.{_≡_};
 ghost use Prim.Native.Nat.{_≤_};
-ghost use lib.ListN.{length};
 ghost use Rattle.model.specs.Limits.{mostBlocks, widest};
-ghost use Rattle.model.specs.Tables.{linksOf, widthOf};
+ghost use Rattle.model.specs.Tables.{widthOf};
+ghost use Rattle.model.specs.Packed.{unpacked};
+ghost use Rattle.tables.specs.Fits.{Forms};
 ghost use Rattle.audit.specs.Audit.{unfit, lookTwin};
-use tables::nodes::position_of;
-use tables::nodes::side_of;
+use tables::forms::parts_of;
 
 // A node that may stand here: the weight of its position, and its two references. An unfit one has weight 0.
 pub struct Node {
@@ -27,15 +27,16 @@ pub(crate) fn no_node() -> Node
 }
 
 // The node: its position is 1 to the width, and not tested above it.
-pub(crate) fn look(links: &[u32], blocks: usize, mask: u64, node: usize) -> Node
-    requires { ⌜ (blocks ≤ mostBlocks) × (length (now links) ≡ linksOf blocks) × (widthOf (now links) ≤ widest) ⌝ }
-    ensures { λ r. ⌜ r ≡ lookTwin (now (links .entry)) blocks mask node ⌝ }
+pub(crate) fn look(links: &[u32], nodes: &[u64], blocks: usize, mask: u64, node: usize) -> Node
+    requires { ⌜ (blocks ≤ mostBlocks) × (1 ≤ blocks) × Forms blocks (now links) (now nodes) × (widthOf (now links) ≤ widest) × (1 ≤ node) ⌝ }
+    ensures { λ r. ⌜ r ≡ lookTwin (unpacked (now (links .entry)) (now (nodes .entry))) blocks mask node ⌝ }
 {
     if blocks <= node {
         return no_node();
     }
     let width = links[0];
-    let position = position_of(links, blocks, node);
+    let parts = parts_of(links, nodes, blocks, node);
+    let position = parts.position;
     if position == 0 {
         return no_node();
     }
@@ -48,7 +49,7 @@ pub(crate) fn look(links: &[u32], blocks: usize, mask: u64, node: usize) -> Node
     let one: u64 = 1;
     Node {
         weight: one << (width - position),
-        left: side_of(links, blocks, node, 0),
-        right: side_of(links, blocks, node, 1),
+        left: parts.left,
+        right: parts.right,
     }
 }

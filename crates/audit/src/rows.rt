@@ -3,7 +3,7 @@ ghost use mathlib.Core.Path.{_≡_};
 ghost use mathlib.Core.Bool.{true};
 ghost use lib.ListN.{length};
 ghost use Rattle.model.specs.Sound.{filedUpTo};
-ghost use Rattle.audit.specs.Audit.{Fits, rowOk, rowsOk};
+ghost use Rattle.audit.specs.Audit.{RowsFit, rowOk, rowsOk};
 use tables::rows::filed_of;
 use tables::rows::next_of;
 use tables::rows::signature_of;
@@ -32,7 +32,7 @@ pub(crate) fn row_fits(signature: u64, next: u32, filed: u32, width: u32) -> boo
 
 // All rows, and the number of filed blocks.
 pub(crate) fn check_rows(signatures: &[u64], links: &[u32]) -> Rows
-    requires { ⌜ Fits (now signatures) (now links) ⌝ }
+    requires { ⌜ RowsFit (now signatures) (now links) ⌝ }
     ensures { λ r. ⌜ r .fit ≡ rowsOk (now (signatures .entry)) (now (links .entry)) (length (now (signatures .entry))) ⌝ }
     ensures { λ r. ⌜ (r .fit ≡ true → r .count ≡ filedUpTo (now (links .entry)) (length (now (signatures .entry)))) ⌝ }
 {

@@ -3,7 +3,8 @@
 ghost use mathlib.Core.Path.{_≡_};
 ghost use Prim.Native.Nat.{_≤_};
 ghost use lib.ListN.{length};
-ghost use Rattle.audit.specs.Audit.{Fits, failed, leafTwin, passedBy, walkTwin, treeTwin};
+ghost use Rattle.model.specs.Packed.{unpacked};
+ghost use Rattle.audit.specs.Audit.{RowsFit, Fits, failed, leafTwin, passedBy, walkTwin, treeTwin};
 use super::chain::follow;
 use super::node::look;
 use tables::rows::signature_of;
@@ -14,10 +15,11 @@ pub struct Lent {
     pub blocks: u32,
 }
 
-// What a subtree gave: whether it is fit, and what is left of that lent to it.
+// What a subtree gave: what is left of that lent to it, and whether it is fit. The flag stands last: in front it would share eight bytes
+// with a count, and a copy of the whole would wait for both.
 pub struct Part {
-    pub fit: bool,
     pub left: Lent,
+    pub fit: bool,
 }
 
 // The positions tested on the path so far as a mask, and those of them where the right edge was taken.
@@ -47,7 +49,7 @@ pub(crate) fn leaf(
     reference: u32,
     lent: Lent,
 ) -> Part
-    requires { ⌜ Fits (now signatures) (now links) ⌝ }
+    requires { ⌜ RowsFit (now signatures) (now links) ⌝ }
     requires { ⌜ reference ≤ length (now signatures) ⌝ }
     ensures { λ r. ⌜ r ≡ leafTwin (now (signatures .entry)) (now (links .entry)) tested reference lent ⌝ }
 {
@@ -82,13 +84,14 @@ pub(crate) fn passed(tested: Tested, weight: u64, edge: u64) -> Tested
 pub(crate) fn walk(
     signatures: &[u64],
     links: &[u32],
+    nodes: &[u64],
     tested: Tested,
     reference: u32,
     untested: u32,
     lent: Lent,
 ) -> Part
-    requires { ⌜ Fits (now signatures) (now links) ⌝ }
-    ensures { λ r. ⌜ r ≡ walkTwin untested (now (signatures .entry)) (now (links .entry)) tested reference lent ⌝ }
+    requires { ⌜ Fits (now signatures) (now links) (now nodes) ⌝ }
+    ensures { λ r. ⌜ r ≡ walkTwin untested (now (signatures .entry)) (unpacked (now (links .entry)) (now (nodes .entry))) tested reference lent ⌝ }
 {
     let blocks = signatures.len();
     let at = reference as usize;
@@ -101,7 +104,7 @@ pub(crate) fn walk(
     if lent.nodes == 0 {
         return no_part();
     }
-    let node = look(links, blocks, tested.mask, at - blocks);
+    let node = look(links, nodes, blocks, tested.mask, at - blocks);
     if node.weight == 0 {
         return no_part();
     }
@@ -111,18 +114,26 @@ pub(crate) fn walk(
         blocks: lent.blocks,
     };
     let left = passed(tested, node.weight, 0);
-    let first = walk(signatures, links, left, node.left, rest, below);
+    let first = walk(signatures, links, nodes, left, node.left, rest, below);
     if !first.fit {
         return first;
     }
     let right = passed(tested, node.weight, node.weight);
-    walk(signatures, links, right, node.right, rest, first.left)
+    walk(
+        signatures,
+        links,
+        nodes,
+        right,
+        node.right,
+        rest,
+        first.left,
+    )
 }
 
 // The tree from the root.
-pub(crate) fn whole_tree(signatures: &[u64], links: &[u32], lent: Lent) -> Part
-    requires { ⌜ Fits (now signatures) (now links) ⌝ }
-    ensures { λ r. ⌜ r ≡ treeTwin (now (signatures .entry)) (now (links .entry)) lent ⌝ }
+pub(crate) fn whole_tree(signatures: &[u64], links: &[u32], nodes: &[u64], lent: Lent) -> Part
+    requires { ⌜ Fits (now signatures) (now links) (now nodes) ⌝ }
+    ensures { λ r. ⌜ r ≡ treeTwin (now (signatures .entry)) (unpacked (now (links .entry)) (now (nodes .entry))) lent ⌝ }
 {
     let root = links[2];
     if root == 0 {
@@ -132,5 +143,5 @@ pub(crate) fn whole_tree(signatures: &[u64], links: &[u32], lent: Lent) -> Part
         };
     }
     let nothing = Tested { mask: 0, edges: 0 };
-    walk(signatures, links, nothing, root, links[0], lent)
+    walk(signatures, links, nodes, nothing, root, links[0], lent)
 }

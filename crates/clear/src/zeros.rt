@@ -1,4 +1,4 @@
-// All words 0, in each of the two tables.
+// All words 0, in the signatures and in the links.
 ghost use Prim.Native.Nat.{_≤_};
 ghost use mathlib.Core.Path.{_≡_};
 ghost use lib.ListN.{length, replicate};

@@ -18,7 +18,7 @@ abbrev pub PlanFits : ℕ → List ℕ → Plan → Type 0
 PlanFits B links Unfit = Unit {0}
 PlanFits B links First = countOf links < B
 PlanFits B links (Join h) = (countOf links < B) × (1 ≤ h) × (h ≤ B)
-PlanFits B links (Split at h f p e) = (countOf links < B) × (at < linksOf B) × (1 ≤ f) × (f < B) × (e ≤ 1)
+PlanFits B links (Split at h f p e) = (countOf links < B) × (at < linksOf B) × (1 ≤ f) × (f < B) × (e ≤ 1) × (h ≤ B) × (p ≤ 64)
 
 -- there is a plan
 abbrev pub isPlan : Plan → Bool

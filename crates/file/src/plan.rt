@@ -3,7 +3,8 @@ ghost use Prim.Native.Nat.{_^_, _≤_, _<_};
 ghost use mathlib.Core.Path.{_≡_};
 ghost use lib.ListN.{length};
 ghost use Rattle.model.specs.Tables.{linksOf, widthOf, countOf};
-ghost use Rattle.model.specs.Sound.{FitsAt};
+ghost use Rattle.model.specs.Packed.{unpacked};
+ghost use Rattle.tables.specs.Fits.{FitsPacked};
 ghost use Rattle.file.specs.Plan.{PlanFits, SplitPlan, Plans};
 use tables::address;
 
@@ -27,7 +28,7 @@ fn plan_split(
     other: u64,
 ) -> Plan
     requires { ⌜ (1 ≤ width) × (width ≤ 64) × (signature < 2 ^ width) × (other ≡ signature → ⊥) ⌝ }
-    requires { ⌜ (length (now links) ≡ linksOf blocks) × (1 ≤ blocks) × (link < linksOf blocks) × (countOf (now links) < blocks) ⌝ }
+    requires { ⌜ (5 ≤ length (now links)) × (1 ≤ blocks) × (link < linksOf blocks) × (countOf (now links) < blocks) × (leaf ≤ blocks) ⌝ }
     ensures splits { λ r. ⌜ SplitPlan blocks width (now (links .entry)) signature link leaf other r ⌝ }
     ensures within { λ r. ⌜ PlanFits blocks (now (links .entry)) r ⌝ }
 {
@@ -44,11 +45,17 @@ fn plan_split(
 }
 
 // The plan of a filing that no question refuses.
-pub fn plan_filing(signatures: &[u64], links: &[u32], block: u32, signature: u64) -> Plan
-    requires { ⌜ FitsAt (length (now signatures)) (widthOf (now links)) (now signatures) (now links) ⌝ }
-    requires { ⌜ (1 ≤ block) × (block ≤ length (now signatures)) × (signature < 2 ^ widthOf (now links)) ⌝ }
-    ensures plans { λ r. ⌜ Plans (now (signatures .entry)) (now (links .entry)) block signature r ⌝ }
-    ensures within { λ r. ⌜ PlanFits (length (now (signatures .entry))) (now (links .entry)) r ⌝ }
+pub fn plan_filing(
+    signatures: &[u64],
+    links: &[u32],
+    nodes: &[u64],
+    block: u32,
+    signature: u64,
+) -> Plan
+    requires { ⌜ FitsPacked (now signatures) (now links) (now nodes) ⌝ }
+    requires { ⌜ (1 ≤ block) × (block ≤ length (now signatures)) × (signature < 2 ^ widthOf (unpacked (now links) (now nodes))) ⌝ }
+    ensures plans { λ r. ⌜ Plans (now (signatures .entry)) (unpacked (now (links .entry)) (now (nodes .entry))) block signature r ⌝ }
+    ensures within { λ r. ⌜ PlanFits (length (now (signatures .entry))) (unpacked (now (links .entry)) (now (nodes .entry))) r ⌝ }
 {
     let blocks = signatures.len();
     let width = links[address::WIDTH];
@@ -58,12 +65,12 @@ pub fn plan_filing(signatures: &[u64], links: &[u32], block: u32, signature: u64
     if links[address::ROOT] == 0 {
         return Plan::First;
     }
-    let walked = tables::walk::walk(links, blocks, width, signature);
+    let walked = tables::walk::walk(links, nodes, blocks, width, signature);
     let link = walked.link;
     if link == 0 {
         return Plan::Unfit;
     }
-    let leaf = links[link];
+    let leaf = walked.reference;
     if !tables::front::is_block(leaf, blocks) {
         return Plan::Unfit;
     }

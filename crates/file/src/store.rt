@@ -2,8 +2,9 @@
 ghost use Prim.Native.Nat.{_≤_, _<_};
 ghost use mathlib.Core.Path.{_≡_};
 ghost use mathlib.Core.List.{[], _∷_};
-ghost use lib.ListN.{length};
+ghost use lib.ListN.{length, set};
 ghost use Rattle.model.specs.Tables.{linksOf, countOf, nextAt, filedAt};
+ghost use Rattle.model.specs.Packed.{unpacked, Packs};
 ghost use Rattle.model.specs.Stores.{_↤_, stores};
 ghost use Rattle.model.specs.File.{filingStores, firstStores, chainStores, splitStores};
 ghost use Rattle.file.specs.Plan.{PlanFits, isPlan, planStores};
@@ -46,6 +47,7 @@ fn store_join(links: &mut [u32], block: u32, head: u32)
 // The first free node takes the leaf's place: the block goes to its side, the leaf to the other.
 fn store_split(
     links: &mut [u32],
+    nodes: &mut [u64],
     blocks: usize,
     block: u32,
     link: usize,
@@ -54,26 +56,29 @@ fn store_split(
     position: u32,
     side: u32,
 )
-    requires { ⌜ (blocks ≤ 65535) × (length (now links) ≡ linksOf blocks) × (countOf (now links) < 65535) ⌝ }
-    requires { ⌜ (1 ≤ block) × (block ≤ blocks) × (link < linksOf blocks) × (1 ≤ node) × (node < blocks) × (side ≤ 1) ⌝ }
-    ensures { λ _. ⌜ now (links .exit) ≡ stores (now (links .entry)) (splitStores blocks (now (links .entry)) block link leaf node position side) ⌝ }
+    requires { ⌜ (blocks ≤ 65535) × Packs blocks (now links) (now nodes) × (countOf (now links) < 65535) ⌝ }
+    requires { ⌜ (1 ≤ block) × (block ≤ blocks) × (link < linksOf blocks) × (1 ≤ node) × (node < blocks) × (side ≤ 1) × (leaf ≤ blocks) × (position ≤ 64) ⌝ }
+    ensures { λ _. ⌜ unpacked (now (links .exit)) (now (nodes .exit)) ≡ stores (unpacked (now (links .entry)) (now (nodes .entry))) (splitStores blocks (unpacked (now (links .entry)) (now (nodes .entry))) block link leaf node position side) ⌝ }
 {
-    let words = 2 * blocks + 3 * node as usize;
-    let e = side as usize;
-    let free = links[words + 3];
+    let at = node as usize;
+    let free = tables::nodes::left_in(tables::nodes::word_of(nodes, at));
     store_row(links, block, 0);
-    links[address::FREE] = free;
-    links[words + 2] = position;
-    links[words + (3 + e)] = block;
-    links[words + (3 + (1 - e))] = leaf;
-    links[link] = blocks as u32 + node;
+    tables::stores::set_free(links, free);
+    tables::nodes::set_sides(nodes, at, position, side, block, leaf);
+    tables::stores::set_word(links, nodes, link, blocks as u32 + node);
 }
 
 // Makes the stores of a plan, and says whether there is one.
-pub fn carry_out(links: &mut [u32], blocks: usize, block: u32, plan: Plan) -> bool
-    requires { ⌜ (blocks ≤ 65535) × (length (now links) ≡ linksOf blocks) × (1 ≤ block) × (block ≤ blocks) ⌝ }
-    requires { ⌜ PlanFits blocks (now links) plan ⌝ }
-    ensures { λ r. ⌜ (r ≡ isPlan plan) × (now (links .exit) ≡ stores (now (links .entry)) (planStores blocks (now (links .entry)) block plan)) ⌝ }
+pub fn carry_out(
+    links: &mut [u32],
+    nodes: &mut [u64],
+    blocks: usize,
+    block: u32,
+    plan: Plan,
+) -> bool
+    requires { ⌜ (blocks ≤ 65535) × Packs blocks (now links) (now nodes) × (1 ≤ block) × (block ≤ blocks) ⌝ }
+    requires { ⌜ PlanFits blocks (unpacked (now links) (now nodes)) plan ⌝ }
+    ensures { λ r. ⌜ (r ≡ isPlan plan) × (unpacked (now (links .exit)) (now (nodes .exit)) ≡ stores (unpacked (now (links .entry)) (now (nodes .entry))) (planStores blocks (unpacked (now (links .entry)) (now (nodes .entry))) block plan)) ⌝ }
 {
     match plan {
         Plan::Unfit => false,
@@ -86,7 +91,17 @@ pub fn carry_out(links: &mut [u32], blocks: usize, block: u32, plan: Plan) -> bo
             true
         }
         Plan::Split(link, leaf, node, position, side) => {
-            store_split(links, blocks, block, link, leaf, node, position, side);
+            store_split(
+                links,
+                nodes,
+                blocks,
+                block,
+                link,
+                leaf,
+                node,
+                position,
+                side,
+            );
             true
         }
     }

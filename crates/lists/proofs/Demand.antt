@@ -18,7 +18,7 @@ use Rattle.lists.proofs.OnSound.{sound-step}
 use Rattle.lists.proofs.OnZeros.{zero-step}
 
 -- any request, from any beginning
-step : (sigs links : List ℕ) (L : Ledger) (t : Tree) → Begins sigs links L t → (r : Reading) (W : Work) (o : Report) (M′ : Memory)
+pub step : (sigs links : List ℕ) (L : Ledger) (t : Tree) → Begins sigs links L t → (r : Reading) (W : Work) (o : Report) (M′ : Memory)
     → GivesReading r (record { signatures = sigs; links = links; work = W }) o M′ → Stepped L t r (record { signatures = sigs; links = links; work = W }) o M′
 step sigs links L t b (refused n) W o M′ g = stays L t (record { signatures = sigs; links = links; work = W }) o M′ (refused n) b (g .0) (g .1) (λ q i z. omega (arith, ap carried i)) refl refl
 step sigs links L t (sound S) (carries c) W o M′ g = sound-step c (record { signatures = sigs; links = links; work = W }) o M′ g S

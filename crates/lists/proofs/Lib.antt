@@ -9,3 +9,6 @@ pub mod OnZeros
 pub mod Demand
 pub mod Starts
 pub mod Alike
+pub mod Outcomes
+pub mod Packed
+pub mod SameForms

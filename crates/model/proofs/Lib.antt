@@ -1,6 +1,8 @@
 pub mod Bits
 pub mod Pigeon
 pub mod Stores
+pub mod Packing
+pub mod PackedExamples
 pub mod Members
 pub mod Keep
 pub mod Asking

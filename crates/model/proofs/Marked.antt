@@ -1,5 +1,6 @@
 -- The marked set (document 01, "Edges and a run"), by computation: the ten steps of the first run and the tree of the second, by the
--- ledger and the plain tree, and on the words of an index of 1,024 blocks whose words are all 0 at the start.
+-- ledger and the plain tree, and on the words of an index of 1,024 blocks whose words are all 0 at the start, with three words to a node
+-- and with one.
 -- Assumes nothing.
 use Prim.Native.Nat.{ℕ, zero, suc, max}
 use mathlib.Core.Path.{_≡_, refl}
@@ -10,13 +11,14 @@ use Rattle.model.specs.Signature.{coversb, differenceFrom}
 use Rattle.model.specs.Tree.{Tree, nothing, leaf, node, split, insert, join, remove, signatures, path, noZeroEdge, compared, nodesRead}
 use Rattle.model.specs.Build.{smaller, bestOf, buildWithin}
 use Rattle.model.specs.Tables.{treeFrom}
+use Rattle.model.specs.Packed.{opened, closed, unpacked}
 use Rattle.model.specs.Clear.{freeFrom, freeNodes, clearLinks}
 use Rattle.model.specs.File.{spotFrom, fileStores, fileLinks}
 use Rattle.model.specs.Withdraw.{blockBefore, parentFrom, withdrawStores, withdrawLinks}
 use Rattle.model.specs.Rebuild.{headsFrom, groupNodes, groupLinks}
 use Rattle.model.specs.Questions.{ask, clearRefusal, fileRefusal, withdrawRefusal, rebuildRefusal, searchRefusal, Work, numberAt, askSlip, readKind, readSlip}
 use Rattle.model.specs.Ledger.{emptyLedger, matchingFrom, entryIn, entriesFrom}
-use Rattle.model.specs.Lines.{linesBy, treeBy, linesOn, treeOn, longestPath}
+use Rattle.model.specs.Lines.{linesBy, treeBy, linesOn, treeOn, linesPacked, treePacked, longestPath}
 
 -- a slip of numbers below 256: kind, block, signature or query
 unfoldable pub slip : ℕ → ℕ → ℕ → List ℕ
@@ -70,14 +72,23 @@ blank = replicate 1024 0
 unfoldable pub blankLinks : List ℕ
 blankLinks = replicate 5122 0
 
+unfoldable pub blankRows : List ℕ
+blankRows = replicate 2053 0
+
+unfoldable pub blankNodes : List ℕ
+blankNodes = replicate 1023 0
+
 pub record MarkedSet : Type 0 where
   pub run-ledger : linesBy lent (emptyLedger 1024 0) nothing run ≡ lines
   pub run-tables : linesOn lent run blank blankLinks ≡ lines
+  pub run-packed : linesPacked lent run blank blankRows blankNodes ≡ lines
   pub filed-ledger : longestPath (treeBy lent (emptyLedger 1024 0) nothing (filings [])) (0b1000 ∷ 0b1100 ∷ 0b1110 ∷ 0b1111 ∷ []) ≡ 3
   pub filed-tables : longestPath (treeOn lent (filings []) blank blankLinks) (0b1000 ∷ 0b1100 ∷ 0b1110 ∷ 0b1111 ∷ []) ≡ 3
+  pub filed-packed : longestPath (treePacked lent (filings []) blank blankRows blankNodes) (0b1000 ∷ 0b1100 ∷ 0b1110 ∷ 0b1111 ∷ []) ≡ 3
   pub rebuilt-ledger : treeBy lent (emptyLedger 1024 0) nothing (filings (slip 3 0 0 ∷ [])) ≡ rebuilt
   pub rebuilt-tables : treeOn lent (filings (slip 3 0 0 ∷ [])) blank blankLinks ≡ rebuilt
+  pub rebuilt-packed : treePacked lent (filings (slip 3 0 0 ∷ [])) blank blankRows blankNodes ≡ rebuilt
 
 pub marked-set : MarkedSet
-unfolding slip run lines filings rebuilt lent blank blankLinks upFrom keep has once coversb differenceFrom split insert join remove signatures path noZeroEdge compared nodesRead smaller bestOf buildWithin treeFrom freeFrom freeNodes clearLinks spotFrom fileStores fileLinks blockBefore parentFrom withdrawStores withdrawLinks headsFrom groupNodes groupLinks ask clearRefusal fileRefusal withdrawRefusal rebuildRefusal searchRefusal numberAt askSlip readKind readSlip matchingFrom entryIn entriesFrom linesBy treeBy linesOn treeOn longestPath
-marked-set = record { run-ledger = refl; run-tables = refl; filed-ledger = refl; filed-tables = refl; rebuilt-ledger = refl; rebuilt-tables = refl }
+unfolding slip run lines filings rebuilt lent blank blankLinks blankRows blankNodes opened closed unpacked linesPacked treePacked upFrom keep has once coversb differenceFrom split insert join remove signatures path noZeroEdge compared nodesRead smaller bestOf buildWithin treeFrom freeFrom freeNodes clearLinks spotFrom fileStores fileLinks blockBefore parentFrom withdrawStores withdrawLinks headsFrom groupNodes groupLinks ask clearRefusal fileRefusal withdrawRefusal rebuildRefusal searchRefusal numberAt askSlip readKind readSlip matchingFrom entryIn entriesFrom linesBy treeBy linesOn treeOn longestPath
+marked-set = record { run-ledger = refl; run-tables = refl; run-packed = refl; filed-ledger = refl; filed-tables = refl; filed-packed = refl; rebuilt-ledger = refl; rebuilt-tables = refl; rebuilt-packed = refl }

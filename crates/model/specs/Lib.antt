@@ -4,6 +4,7 @@ pub mod Signature
 pub mod Tree
 pub mod Build
 pub mod Tables
+pub mod Packed
 pub mod Sound
 pub mod Stores
 pub mod Clear
@@ -15,5 +16,8 @@ pub mod Ledger
 pub mod Promises
 pub mod Lists
 pub mod Claim
+pub mod PackedPromises
+pub mod PackedLists
+pub mod SameForms
 pub mod Lines
 pub mod Words

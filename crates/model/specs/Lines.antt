@@ -1,5 +1,6 @@
 -- What a run of slips prints (document 01, "Edges and a run"), a line as a list of numbers: kind (byte 0), answer, found, compares,
--- bits read, then the blocks. It is computed twice: by the ledger and the plain tree, and on the words of sound tables.
+-- bits read, then the blocks. It is computed three times: by the ledger and the plain tree, on the words of sound tables, and on their
+-- packed words.
 -- Assumes nothing.
 use Prim.Native.Nat.{ℕ, zero, suc, max}
 use mathlib.Core.Bool.{Bool, true, false}
@@ -8,6 +9,7 @@ use lib.Dec.{eqb}
 use lib.ListN.{length}
 use Rattle.model.specs.Tree.{Tree, path}
 use Rattle.model.specs.Tables.{treeOf}
+use Rattle.model.specs.Packed.{unpacked, packedLinks, packedNodes}
 use Rattle.model.specs.Clear.{clearSignatures, clearLinks}
 use Rattle.model.specs.File.{fileSignatures, fileLinks}
 use Rattle.model.specs.Withdraw.{withdrawSignatures, withdrawLinks}
@@ -98,6 +100,18 @@ treeRead next W (carries c) sigs links = onward next (refusal (asksTables sigs l
 unfoldable pub treeOn : Work → List (List ℕ) → List ℕ → List ℕ → Tree
 treeOn W [] sigs links = treeOf sigs links
 treeOn W (bytes ∷ rest) sigs links = treeRead (treeOn W rest) W (readSlip bytes) sigs links
+
+-- On packed words: a call finds the tables that they hold, and leaves its own packed.
+abbrev pub packedNext {ℓ} : {A : Type ℓ} → (List ℕ → List ℕ → List ℕ → A) → List ℕ → List ℕ → A
+packedNext next sigs links = next sigs (packedLinks (length sigs) links) (packedNodes (length sigs) links)
+
+unfoldable pub linesPacked : Work → List (List ℕ) → List ℕ → List ℕ → List ℕ → List (List ℕ)
+linesPacked W [] sigs links nodes = []
+linesPacked W (bytes ∷ rest) sigs links nodes = readOn (packedNext (linesPacked W rest)) W bytes (readSlip bytes) sigs (unpacked links nodes)
+
+unfoldable pub treePacked : Work → List (List ℕ) → List ℕ → List ℕ → List ℕ → Tree
+treePacked W [] sigs links nodes = treeOf sigs (unpacked links nodes)
+treePacked W (bytes ∷ rest) sigs links nodes = treeRead (packedNext (treePacked W rest)) W (readSlip bytes) sigs (unpacked links nodes)
 
 -- the longest of the paths of some signatures
 unfoldable pub longestPath : Tree → List ℕ → ℕ

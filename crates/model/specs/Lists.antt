@@ -47,10 +47,6 @@ abbrev pub GivesReading : Reading → Memory → Report → Memory → Type 0
 GivesReading (refused n) M o M′ = (o ≡ bare n) × (M′ ≡ M)
 GivesReading (carries c) M o M′ = Gives c M o M′
 
--- The slip reader's promise: any bytes of any length.
-abbrev pub SlipPromise : List ℕ → Memory → Report → Memory → Type 0
-SlipPromise bytes = GivesReading (readSlip bytes)
-
 -- A call comes directly, or as a slip.
 pub data Request : Type 0 where
   direct : Call → Request

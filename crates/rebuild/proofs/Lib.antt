@@ -5,6 +5,6 @@ pub mod Tree
 pub mod Rebuilt
 pub mod Kept
 pub mod Collecting
-pub mod Freeing
 pub mod Whole
 pub mod Answer
+pub mod Packed

@@ -3,16 +3,20 @@
 -- Assumes nothing.
 use Prim.Native.Nat.{ℕ, zero, suc, _+_, _-_, _≤_, max}
 use native.Mathlib.Omega.{arith}
-use mathlib.Core.Path.{_≡_, refl, sym, _∙_, ap}
+use mathlib.Core.Path.{_≡_, refl, sym, _∙_, ap, ap₂, subst}
 use mathlib.Core.List.{List, [], _∷_, _++_, List·Memᴰ, List·Memᴰ·head, List·Memᴰ·tail}
 use lib.ListN.{length, getD, set, take, drop, length-set}
 use lib.Seq.{sets, sets-eq, length-sets, length-take-le, take-at, drop-at, drop-drop, getD-take}
-use Rattle.model.specs.Tables.{linksOf, positionAt, widthOf}
+use Rattle.model.specs.Tables.{linksOf, positionAt, widthOf, rootOf}
+use Rattle.model.specs.Packed.{unpacked, Packs}
+use Rattle.model.proofs.Packing.{row-store, front-word}
 use Rattle.model.specs.Sound.{Sound}
 use Rattle.model.specs.Clear.{freeFrom, freeNodes}
-use Rattle.model.specs.Rebuild.{headsOf, groupReference, groupNodes, rebuildLinks}
+use Rattle.model.specs.Rebuild.{headsFrom, headsOf, groupReference, groupNodes, rebuildLinks}
 use Rattle.split.specs.Split.{Blocks, Group, referenceTo}
 use Rattle.split.proofs.Nodes.{reference-by}
+use Rattle.rebuild.specs.Walkable.{Walkable}
+use Rattle.rebuild.proofs.Collecting.{sound-walk}
 use Rattle.rebuild.proofs.Laid.{written}
 use Rattle.rebuild.proofs.Rebuilt.{all-below, HeadsGroup, heads-group}
 
@@ -90,7 +94,7 @@ module _ (sigs links l l1 : List ℕ) (d : ℕ) (K : Collected sigs links l l1 d
   group = record { from = S .fits .width-from; to = S .fits .width-to; blocks = all-blocks B heads (G .blocks); below = all-below sigs links S; apart = G .apart }
 
   -- what the call that builds the tree asks
-  pub build-asks : (reference free : ℕ) → Group (widthOf links) sigs (take d l1)
+  build-asks : (reference free : ℕ) → Group (widthOf links) sigs (take d l1)
       × (((length sigs ≤ 65535) × (length (set (set links 2 reference) 3 free) ≡ linksOf (length sigs))) × ((1 ≤ 1) × (1 + length (take d l1) ≤ length sigs + 1)))
   build-asks reference free =
       let n = length-take-le d l1 fits in
@@ -122,3 +126,36 @@ module _ (sigs links l l1 : List ℕ) (d : ℕ) (K : Collected sigs links l l1 d
       e ∙ ap (λ (n : ℕ). sets built (positionAt B n) (freeNodes (B - n) n)) f
       ∙ ap (λ (k : List ℕ). sets k (positionAt B (max 1 (length heads))) (freeNodes (B - max 1 (length heads)) (max 1 (length heads)))) b
       ∙ written sigs links heads (S .fits) (all-below sigs links S) (G .apart) (G .few)
+
+-- the same of packed tables, with the width and the root as they are read
+module _ (sigs links nodes : List ℕ) (P : Packs (length sigs) links nodes) where
+  abbrev U : List ℕ
+  U = unpacked links nodes
+
+  width-read : widthOf U ≡ widthOf links
+  width-read = front-word (length sigs) links nodes P 0 (omega arith)
+
+  pub heads-read : headsFrom (length sigs) (unpacked links nodes) (widthOf links) (rootOf links) ≡ headsOf sigs (unpacked links nodes)
+  heads-read = ap₂ (λ (F r : ℕ). headsFrom (length sigs) U F r) (sym width-read) (sym (front-word (length sigs) links nodes P 2 (omega arith)))
+
+  pub walk-read : Sound sigs (unpacked links nodes) → Walkable (length sigs) (unpacked links nodes) (widthOf links) (rootOf links)
+  walk-read S = rw (← width-read, ← front-word (length sigs) links nodes P 2 (omega arith)) (sound-walk sigs U S)
+
+  module _ (l l1 : List ℕ) (d : ℕ) (K : Collected sigs (unpacked links nodes) l l1 d) where
+    pub asks-packed : Group (widthOf links) sigs (take d l1)
+        × (((length sigs ≤ 65535) × (length nodes + 1 ≡ length sigs)) × ((1 ≤ 1) × (1 + length (take d l1) ≤ length sigs + 1)))
+    asks-packed =
+        let a = build-asks sigs U l l1 d K 0 0 in
+        (subst (λ (F : ℕ). Group F sigs (take d l1)) width-read (a .0), ((a .1 .0 .0, P .nodes-long), a .1 .1))
+
+    pub whole-packed : (first reference free : ℕ) (l₂ n₁ n₂ : List ℕ) → first ≡ max 1 d → reference ≡ referenceTo d (getD l1 0 0) (length sigs + 1) → free ≡ freeFrom (length sigs) first
+        → l₂ ≡ set (set links 2 reference) 3 free
+        → unpacked l₂ n₁ ≡ sets (unpacked l₂ nodes) (positionAt (length sigs) 1) (groupNodes (length (take d l1)) (widthOf links) sigs (take d l1) 1)
+        → unpacked l₂ n₂ ≡ sets (unpacked l₂ n₁) (positionAt (length sigs) first) (freeNodes (length sigs - first) first) → unpacked l₂ n₂ ≡ rebuildLinks sigs (unpacked links nodes)
+    whole-packed first reference free l₂ n₁ n₂ ef er ez el e₁ e₂ =
+        let a : unpacked l₂ nodes ≡ set (set U 2 reference) 3 free =
+        ap (λ (x : List ℕ). unpacked x nodes) el
+        ∙ sym (row-store (set links 2 reference) nodes 3 free (simp length-set (omega (arith, P .rows-long))))
+        ∙ ap (λ (x : List ℕ). set x 3 free) (sym (row-store links nodes 2 reference (omega (arith, P .rows-long)))) in
+        whole sigs U l l1 d K first reference free (unpacked l₂ n₁) (unpacked l₂ n₂) ef er ez
+        (e₁ ∙ ap₂ (λ (x : List ℕ) (F : ℕ). sets x (positionAt (length sigs) 1) (groupNodes (length (take d l1)) F sigs (take d l1) 1)) a (sym width-read)) e₂

@@ -6,7 +6,7 @@ use mathlib.Core.Path.{_≡_, refl, sym, _∙_, ap, ap₂, subst}
 use mathlib.Core.List.{List, [], _∷_, _++_, append-nil, append-assoc}
 use lib.ListN.{length, take, drop, length-append}
 use lib.Seq.{sets, sets-eq, take-at, length-take-le}
-use Rattle.model.specs.Lists.{Memory}
+use Rattle.model.specs.PackedLists.{PackedMemory}
 use Rattle.lines.specs.Text.{Puts}
 use Rattle.runner.specs.Served.{Served, InTurn, none, after, lineOf, slipsFrom, Batched, Drained, Ended, Ran}
 
@@ -17,14 +17,14 @@ put-after text line at next text′ p fits =
     ap (take next) (p .words ∙ sets-eq line text at (omega (arith, p .place))) ∙ take-at (take at text ++ line) (drop (at + length line) text) next front
 
 -- one slip more
-pub one-more : (M M₁ M₂ : Memory) (slips : List (List ℕ)) (slip : List ℕ) (text : List ℕ) (used next : ℕ) (text′ : List ℕ)
+pub one-more : (M M₁ M₂ : PackedMemory) (slips : List (List ℕ)) (slip : List ℕ) (text : List ℕ) (used next : ℕ) (text′ : List ℕ)
     → InTurn M slips (take used text) M₁ → Served slip M₁ M₂ text used next text′ → next ≤ length text → InTurn M (slips ++ (slip ∷ [])) (take next text′) M₂
 one-more M M₁ M₂ slips slip text used next text′ r s fits =
     subst (λ (t : List ℕ). InTurn M (slips ++ (slip ∷ [])) t M₂) (sym (put-after text _ used next text′ (s .puts) fits))
     (after slips (take used text) M₁ r slip (s .report) M₂ (s .gives))
 
 -- slips after slips
-pub joined : (M M₁ M₂ : Memory) (slips slips′ : List (List ℕ)) (text text′ : List ℕ) → InTurn M slips text M₁ → InTurn M₁ slips′ text′ M₂ → InTurn M (slips ++ slips′) (text ++ text′) M₂
+pub joined : (M M₁ M₂ : PackedMemory) (slips slips′ : List (List ℕ)) (text text′ : List ℕ) → InTurn M slips text M₁ → InTurn M₁ slips′ text′ M₂ → InTurn M (slips ++ slips′) (text ++ text′) M₂
 joined M M₁ M₂ slips _ text _ a none = rw (append-nil slips, append-nil text) a
 joined M M₁ M₂ slips _ text _ a (after slips′ text′ M₃ r slip o _ g) =
     rw (← append-assoc slips slips′ (slip ∷ []), ← append-assoc text text′ (lineOf slip o (M₂ .work .output)))
@@ -44,11 +44,11 @@ slips-cut bytes from k (suc j) =
     ∙ append-assoc (slipsFrom bytes from k) (slipsFrom bytes (from + 16 * k) j) (take 16 (drop (from + 16 * k + 16 * j) bytes) ∷ [])
 
 -- a batch of no slip, and of one more
-pub batch-none : (bytes : List ℕ) (from end : ℕ) (M : Memory) (text : List ℕ) → from ≤ end → Batched bytes from end M M from 0 text
+pub batch-none : (bytes : List ℕ) (from end : ℕ) (M : PackedMemory) (text : List ℕ) → from ≤ end → Batched bytes from end M M from 0 text
 unfolding slipsFrom
 batch-none bytes from end M text le = record { count = 0; whole = omega arith; inside = le; turns = none; room = omega arith }
 
-pub batch-more : (bytes : List ℕ) (from end : ℕ) (M M₁ M₂ : Memory) (at used : ℕ) (text : List ℕ) (next : ℕ) (text′ : List ℕ) (slip : List ℕ)
+pub batch-more : (bytes : List ℕ) (from end : ℕ) (M M₁ M₂ : PackedMemory) (at used : ℕ) (text : List ℕ) (next : ℕ) (text′ : List ℕ) (slip : List ℕ)
     → Batched bytes from end M M₁ at used text → Served slip M₁ M₂ text used next text′ → slip ≡ take 16 (drop at bytes) → at + 16 ≤ end → next ≤ length text
     → Batched bytes from end M M₂ (at + 16) next text′
 unfolding slipsFrom
@@ -80,18 +80,18 @@ not-none from at used n most zero w u lt le = absurd (omega (arith, u (omega (ar
 not-none from at used n most (suc k) w u lt le = omega (arith, w)
 
 -- the batches so far: the slips of the input up to byte `at`
-pub record Going (bytes : List ℕ) (end : ℕ) (M M′ : Memory) (at : ℕ) : Type 0 where
+pub record Going (bytes : List ℕ) (end : ℕ) (M M′ : PackedMemory) (at : ℕ) : Type 0 where
   pub count : ℕ
   pub whole : at ≡ 16 * count
   pub inside : at ≤ end
   pub text : List ℕ
   pub turns : InTurn M (slipsFrom bytes 0 count) text M′
 
-pub going-none : (bytes : List ℕ) (end : ℕ) (M : Memory) → Going bytes end M M 0
+pub going-none : (bytes : List ℕ) (end : ℕ) (M : PackedMemory) → Going bytes end M M 0
 unfolding slipsFrom
 going-none bytes end M = record { count = 0; whole = refl; inside = omega arith; text = []; turns = none }
 
-pub going-more : (bytes : List ℕ) (end : ℕ) (M M₁ M₂ : Memory) (at at′ used : ℕ) (text : List ℕ) → Going bytes end M M₁ at → Batched bytes at end M₁ M₂ at′ used text → Going bytes end M M₂ at′
+pub going-more : (bytes : List ℕ) (end : ℕ) (M M₁ M₂ : PackedMemory) (at at′ used : ℕ) (text : List ℕ) → Going bytes end M M₁ at → Batched bytes at end M₁ M₂ at′ used text → Going bytes end M M₂ at′
 going-more bytes end M M₁ M₂ at at′ used text g b =
     let d : at ≡ 0 + 16 * g .count = omega (arith, g .whole) in
     record {
@@ -104,24 +104,24 @@ going-more bytes end M M₁ M₂ at at′ used text g b =
           (subst (λ (n : ℕ). InTurn M₁ (slipsFrom bytes n (b .count)) (take used text) M₂) d (b .turns)));
     }
 
-pub going-done : (bytes : List ℕ) (end : ℕ) (M M′ : Memory) (at : ℕ) → Going bytes end M M′ at → end - at < 16 → Drained bytes end M M′ at
+pub going-done : (bytes : List ℕ) (end : ℕ) (M M′ : PackedMemory) (at : ℕ) → Going bytes end M M′ at → end - at < 16 → Drained bytes end M M′ at
 going-done bytes end M M′ at g lt =
     let e : g .count ≡ end / 16 = omega (arith, g .whole, g .inside) in
     record { whole = omega (arith, g .whole, e); text = g .text; turns = subst (λ (k : ℕ). InTurn M (slipsFrom bytes 0 k) (g .text) M′) e (g .turns) }
 
 -- the bytes that are left at the end: none, or one slip
-pub ended-none : (bytes : List ℕ) (kept : ℕ) (M : Memory) → kept ≡ 0 → Ended bytes kept M M
+pub ended-none : (bytes : List ℕ) (kept : ℕ) (M : PackedMemory) → kept ≡ 0 → Ended bytes kept M M
 ended-none bytes kept M e = rw e (record { text = []; turns = none })
 
-pub ended-one : (bytes : List ℕ) (kept : ℕ) (M M′ : Memory) (slip text : List ℕ) (next : ℕ) (text′ : List ℕ) → (kept ≡ 0 → ⊥)
+pub ended-one : (bytes : List ℕ) (kept : ℕ) (M M′ : PackedMemory) (slip text : List ℕ) (next : ℕ) (text′ : List ℕ) → (kept ≡ 0 → ⊥)
     → Served slip M M′ text 0 next text′ → slip ≡ take kept bytes → Ended bytes kept M M′
 ended-one bytes zero M M′ slip text next text′ some s e = absurd (some refl)
 ended-one bytes (suc k) M M′ slip text next text′ some s e =
     record { text = lineOf (take (suc k) bytes) (s .report) (M′ .work .output); turns = after [] [] M none (take (suc k) bytes) (s .report) M′ (rw (← e) (s .gives)) }
 
 -- slips in turn after slips in turn
-pub ran-none : (M : Memory) → Ran M M
+pub ran-none : (M : PackedMemory) → Ran M M
 ran-none M = record { slips = []; text = []; turns = none }
 
-pub ran-more : (M M₁ M₂ : Memory) (slips : List (List ℕ)) (text : List ℕ) → Ran M M₁ → InTurn M₁ slips text M₂ → Ran M M₂
+pub ran-more : (M M₁ M₂ : PackedMemory) (slips : List (List ℕ)) (text : List ℕ) → Ran M M₁ → InTurn M₁ slips text M₂ → Ran M M₂
 ran-more M M₁ M₂ slips text r t = record { slips = r .slips ++ slips; text = r .text ++ text; turns = joined M M₁ M₂ (r .slips) slips (r .text) text (r .turns) t }

@@ -1,4 +1,4 @@
-// Serves slips from standard input and prints a line for each. The slices are the caller's: the two tables, those to work in, a buffer
+// Serves slips from standard input and prints a line for each. The slices are the caller's: the three tables, those to work in, a buffer
 // of input and a buffer of text. A line is written as soon as its slip is complete, and no byte of it is dropped.
 mod input;
 mod text;
@@ -15,6 +15,7 @@ const SLIP: usize = 16;
 fn serve_one(
     signatures: &mut [u64],
     links: &mut [u32],
+    nodes: &mut [u64],
     scratch: &mut [u32],
     marks: &mut [u8],
     output: &mut [u32],
@@ -23,9 +24,9 @@ fn serve_one(
     at: usize,
 ) -> usize
     requires { ⌜ (0 < length (now slip)) × (at + 48 + 11 * length (now output) ≤ length (now text)) ⌝ }
-    ensures { λ r. ⌜ Served (now (slip .entry)) (lent (now (signatures .entry)) (now (links .entry)) (now (scratch .entry)) (now (marks .entry)) (now (output .entry))) (lent (now (signatures .exit)) (now (links .exit)) (now (scratch .exit)) (now (marks .exit)) (now (output .exit))) (now (text .entry)) at r (now (text .exit)) ⌝ }
+    ensures { λ r. ⌜ Served (now (slip .entry)) (lent (now (signatures .entry)) (now (links .entry)) (now (nodes .entry)) (now (scratch .entry)) (now (marks .entry)) (now (output .entry))) (lent (now (signatures .exit)) (now (links .exit)) (now (nodes .exit)) (now (scratch .exit)) (now (marks .exit)) (now (output .exit))) (now (text .entry)) at r (now (text .exit)) ⌝ }
 {
-    let report = sigtree::carry_out(slip, signatures, links, scratch, marks, output);
+    let report = sigtree::carry_out(slip, signatures, links, nodes, scratch, marks, output);
     lines::line(
         text,
         at,
@@ -48,6 +49,7 @@ struct BatchEnd {
 fn batch(
     signatures: &mut [u64],
     links: &mut [u32],
+    nodes: &mut [u64],
     scratch: &mut [u32],
     marks: &mut [u8],
     output: &mut [u32],
@@ -57,7 +59,7 @@ fn batch(
     text: &mut [u8],
 ) -> BatchEnd
     requires { ⌜ (from ≤ end) × (end ≤ length (now bytes)) × (48 + 11 * length (now output) ≤ length (now text)) ⌝ }
-    ensures served { λ r. ⌜ Batched (now (bytes .entry)) from end (lent (now (signatures .entry)) (now (links .entry)) (now (scratch .entry)) (now (marks .entry)) (now (output .entry))) (lent (now (signatures .exit)) (now (links .exit)) (now (scratch .exit)) (now (marks .exit)) (now (output .exit))) (r .at) (r .used) (now (text .exit)) ⌝ }
+    ensures served { λ r. ⌜ Batched (now (bytes .entry)) from end (lent (now (signatures .entry)) (now (links .entry)) (now (nodes .entry)) (now (scratch .entry)) (now (marks .entry)) (now (output .entry))) (lent (now (signatures .exit)) (now (links .exit)) (now (nodes .exit)) (now (scratch .exit)) (now (marks .exit)) (now (output .exit))) (r .at) (r .used) (now (text .exit)) ⌝ }
     ensures some { λ r. ⌜ (16 ≤ end - from → from < r .at) ⌝ }
 {
     let most = 48 + 11 * output.len();
@@ -70,6 +72,7 @@ fn batch(
         used = serve_one(
             signatures,
             links,
+            nodes,
             scratch,
             marks,
             output,
@@ -86,6 +89,7 @@ fn batch(
 fn drain(
     signatures: &mut [u64],
     links: &mut [u32],
+    nodes: &mut [u64],
     scratch: &mut [u32],
     marks: &mut [u8],
     output: &mut [u32],
@@ -94,13 +98,14 @@ fn drain(
     text: &mut [u8],
 ) -> usize
     requires { ⌜ (end ≤ length (now bytes)) × (48 + 11 * length (now output) ≤ length (now text)) ⌝ }
-    ensures { λ r. ⌜ Drained (now (bytes .entry)) end (lent (now (signatures .entry)) (now (links .entry)) (now (scratch .entry)) (now (marks .entry)) (now (output .entry))) (lent (now (signatures .exit)) (now (links .exit)) (now (scratch .exit)) (now (marks .exit)) (now (output .exit))) r ⌝ }
+    ensures { λ r. ⌜ Drained (now (bytes .entry)) end (lent (now (signatures .entry)) (now (links .entry)) (now (nodes .entry)) (now (scratch .entry)) (now (marks .entry)) (now (output .entry))) (lent (now (signatures .exit)) (now (links .exit)) (now (nodes .exit)) (now (scratch .exit)) (now (marks .exit)) (now (output .exit))) r ⌝ }
 {
     let mut at = 0;
     while end - at >= SLIP {
         let served = batch(
             signatures,
             links,
+            nodes,
             scratch,
             marks,
             output,
@@ -119,6 +124,7 @@ fn drain(
 fn last(
     signatures: &mut [u64],
     links: &mut [u32],
+    nodes: &mut [u64],
     scratch: &mut [u32],
     marks: &mut [u8],
     output: &mut [u32],
@@ -127,7 +133,7 @@ fn last(
     text: &mut [u8],
 )
     requires { ⌜ (kept ≤ length (now bytes)) × (48 + 11 * length (now output) ≤ length (now text)) ⌝ }
-    ensures { λ _. ⌜ Ended (now (bytes .entry)) kept (lent (now (signatures .entry)) (now (links .entry)) (now (scratch .entry)) (now (marks .entry)) (now (output .entry))) (lent (now (signatures .exit)) (now (links .exit)) (now (scratch .exit)) (now (marks .exit)) (now (output .exit))) ⌝ }
+    ensures { λ _. ⌜ Ended (now (bytes .entry)) kept (lent (now (signatures .entry)) (now (links .entry)) (now (nodes .entry)) (now (scratch .entry)) (now (marks .entry)) (now (output .entry))) (lent (now (signatures .exit)) (now (links .exit)) (now (nodes .exit)) (now (scratch .exit)) (now (marks .exit)) (now (output .exit))) ⌝ }
 {
     if kept == 0 {
         return;
@@ -135,6 +141,7 @@ fn last(
     let used = serve_one(
         signatures,
         links,
+        nodes,
         scratch,
         marks,
         output,
@@ -149,6 +156,7 @@ fn last(
 fn serve_all(
     signatures: &mut [u64],
     links: &mut [u32],
+    nodes: &mut [u64],
     scratch: &mut [u32],
     marks: &mut [u8],
     output: &mut [u32],
@@ -156,17 +164,37 @@ fn serve_all(
     text: &mut [u8],
 )
     requires { ⌜ 48 + 11 * length (now output) ≤ length (now text) ⌝ }
-    ensures { λ _. ⌜ Ran (lent (now (signatures .entry)) (now (links .entry)) (now (scratch .entry)) (now (marks .entry)) (now (output .entry))) (lent (now (signatures .exit)) (now (links .exit)) (now (scratch .exit)) (now (marks .exit)) (now (output .exit))) ⌝ }
+    ensures { λ _. ⌜ Ran (lent (now (signatures .entry)) (now (links .entry)) (now (nodes .entry)) (now (scratch .entry)) (now (marks .entry)) (now (output .entry))) (lent (now (signatures .exit)) (now (links .exit)) (now (nodes .exit)) (now (scratch .exit)) (now (marks .exit)) (now (output .exit))) ⌝ }
 {
     let mut turns = u64::MAX;
     let mut kept = 0;
     while turns > 0 {
         let end = input::fill(bytes, kept);
         if end == kept {
-            last(signatures, links, scratch, marks, output, bytes, kept, text);
+            last(
+                signatures,
+                links,
+                nodes,
+                scratch,
+                marks,
+                output,
+                bytes,
+                kept,
+                text,
+            );
             return;
         }
-        let from = drain(signatures, links, scratch, marks, output, bytes, end, text);
+        let from = drain(
+            signatures,
+            links,
+            nodes,
+            scratch,
+            marks,
+            output,
+            bytes,
+            end,
+            text,
+        );
         kept = input::shift(bytes, from, end);
         turns -= 1;
     }
@@ -176,13 +204,14 @@ fn serve_all(
 pub fn serve(
     signatures: &mut [u64],
     links: &mut [u32],
+    nodes: &mut [u64],
     scratch: &mut [u32],
     marks: &mut [u8],
     output: &mut [u32],
     bytes: &mut [u8],
     text: &mut [u8],
 )
-    ensures { λ _. ⌜ Ran (lent (now (signatures .entry)) (now (links .entry)) (now (scratch .entry)) (now (marks .entry)) (now (output .entry))) (lent (now (signatures .exit)) (now (links .exit)) (now (scratch .exit)) (now (marks .exit)) (now (output .exit))) ⌝ }
+    ensures { λ _. ⌜ Ran (lent (now (signatures .entry)) (now (links .entry)) (now (nodes .entry)) (now (scratch .entry)) (now (marks .entry)) (now (output .entry))) (lent (now (signatures .exit)) (now (links .exit)) (now (nodes .exit)) (now (scratch .exit)) (now (marks .exit)) (now (output .exit))) ⌝ }
 {
     if text.len() < 48 {
         return;
@@ -190,5 +219,14 @@ pub fn serve(
     if (text.len() - 48) / 11 < output.len() {
         return;
     }
-    serve_all(signatures, links, scratch, marks, output, bytes, text);
+    serve_all(
+        signatures,
+        links,
+        nodes,
+        scratch,
+        marks,
+        output,
+        bytes,
+        text,
+    );
 }

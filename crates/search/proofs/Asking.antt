@@ -2,22 +2,26 @@
 -- Assumes nothing.
 use Prim.Native.Nat.{ℕ, _^_, _≤_, _<_}
 use native.Mathlib.Omega.{arith}
-use mathlib.Core.Path.{_≡_, sym, _∙_}
-use mathlib.Core.Bool.{Bool, true, false}
+use mathlib.Core.Path.{_≡_, sym, _∙_, ap}
+use mathlib.Core.Bool.{Bool, true, false, _&&_}
 use mathlib.Core.List.{List}
 use lib.Dec.{leb, ltb}
 use lib.ListN.{length}
 use borrow.Author.Tests.{lt-leb, le-leb, leb-true, ltb-true}
-use Rattle.model.proofs.Asking.{ask-zero}
+use Rattle.model.proofs.Asking.{both, ask-zero}
 use Rattle.model.specs.Questions.{Asked, ask, tablesFit, asksTables, searchRefusal}
-use Rattle.tables.proofs.Fits.{fits-of}
-use Rattle.search.specs.Search.{Sized}
+use Rattle.model.specs.Tables.{widthOf}
+use Rattle.model.specs.Packed.{unpacked}
+use Rattle.model.specs.PackedPromises.{packedFit}
+use Rattle.model.proofs.Packing.{row-word}
+use Rattle.tables.proofs.Fits.{packs, packed-no, packed-yes, fits-of}
+use Rattle.search.specs.Search.{SizedPacked}
 
-ask-yes : (n : ℕ) (t : Bool) (later : ℕ) → t ≡ true → ask n t later ≡ later
+pub ask-yes : (n : ℕ) (t : Bool) (later : ℕ) → t ≡ true → ask n t later ≡ later
 unfolding ask
 ask-yes n t later e = rw (e, ask)
 
-ask-no : (n : ℕ) (t : Bool) (later : ℕ) → t ≡ false → ask n t later ≡ n
+pub ask-no : (n : ℕ) (t : Bool) (later : ℕ) → t ≡ false → ask n t later ≡ n
 unfolding ask
 ask-no n t later e = rw (e, ask)
 
@@ -55,9 +59,57 @@ module _ (A : Asked) (q marks output : ℕ) where
   -- no question has a larger number than 10
 
 -- what the walk asks of its slices and the query, where no question refuses
-pub passed-sized : (sigs links marks output : List ℕ) (q : ℕ) → searchRefusal (asksTables sigs links) q (length marks) (length output) ≡ 0
-    → Sized sigs links marks q × ((1 ≤ length sigs) × (length sigs ≤ length output))
-passed-sized sigs links marks output q z =
-    let p = all-passed (asksTables sigs links) q (length marks) (length output) z in
-    let f = fits-of sigs links .0 (p .0) in
-    (record { few = f .blocks-to; long = f .links-long; room = p .2; wide = f .width-to; low = p .1 }, (f .blocks-from, p .3))
+pub passed-sized : (sigs links nodes marks output : List ℕ) (q : ℕ)
+    → ask 4 (packedFit sigs links nodes) (searchRefusal (asksTables sigs (unpacked links nodes)) q (length marks) (length output)) ≡ 0
+    → SizedPacked sigs links nodes marks q × ((1 ≤ length sigs) × (length sigs ≤ length output))
+passed-sized sigs links nodes marks output q z =
+    let y = ask-zero 3 (packedFit sigs links nodes) _ z in
+    let P = packs sigs links nodes (y .0) in
+    let p = all-passed (asksTables sigs (unpacked links nodes)) q (length marks) (length output) (y .1) in
+    let f = fits-of sigs (unpacked links nodes) .0 (p .0) in
+    let e : widthOf (unpacked links nodes) ≡ widthOf links = row-word links nodes 0 (omega (arith, P .rows-long)) in (
+      record {
+        sized = record { few = f .blocks-to; long = omega (arith, P .rows-long); room = p .2; wide = rw e at (f .width-to); low = rw e at (p .1) };
+        packs = P;
+      },
+      (f .blocks-from, p .3),
+    )
+
+-- the same as the code asks: question 4 of packed tables first, the width as it is read
+module _ (sigs links nodes : List ℕ) (q marks output : ℕ) where
+  abbrev A : Asked
+  A = asksTables sigs (unpacked links nodes)
+
+  abbrev fit : Bool
+  fit = packedFit sigs links nodes && tablesFit A
+
+  abbrev number : ℕ
+  number = ask 4 (packedFit sigs links nodes) (searchRefusal A q marks output)
+
+  pub says-tables : fit ≡ false → 4 ≡ number
+  says-tables e = sym (packed-no _ _ _ e (λ t. sym (no-tables A q marks output t)))
+
+  module _ (y : fit ≡ true) where
+    later : (n : ℕ) → n ≡ searchRefusal A q marks output → n ≡ number
+    later n e = e ∙ sym (packed-yes _ (tablesFit A) _ y)
+
+    tables-yes : tablesFit A ≡ true
+    tables-yes = both {t = packedFit sigs links nodes} y .1
+
+    as-read : ltb q (2 ^ widthOf (unpacked links nodes)) ≡ ltb q (2 ^ widthOf links)
+    as-read =
+        let l = packs sigs links nodes (both {t = packedFit sigs links nodes} y .0) .rows-long in
+        ap (λ (F : ℕ). ltb q (2 ^ F)) (row-word links nodes 0 (omega arith))
+
+    pub says-query : ltb q (2 ^ widthOf links) ≡ false → 6 ≡ number
+    says-query f = later 6 (no-query A q marks output tables-yes (as-read ∙ f))
+
+    module _ (f : ltb q (2 ^ widthOf links) ≡ true) where
+      pub says-marks : marks < length sigs → 9 ≡ number
+      says-marks h = later 9 (no-marks A q marks output tables-yes (as-read ∙ f) h)
+
+      pub says-output : length sigs ≤ marks → output < length sigs → 10 ≡ number
+      says-output g h = later 10 (no-output A q marks output tables-yes (as-read ∙ f) g h)
+
+      pub says-none : length sigs ≤ marks → length sigs ≤ output → 0 ≡ number
+      says-none g h = later 0 (no-none A q marks output tables-yes (as-read ∙ f) g h)

@@ -3,6 +3,8 @@ pub mod Marks
 pub mod Listed
 pub mod Any
 pub mod Steps
+pub mod Rows
+pub mod Nodes
 pub mod Shaped
 pub mod Hits
 pub mod Exact

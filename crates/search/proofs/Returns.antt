@@ -1,25 +1,25 @@
 -- What each return of the code gives, from what its tests and calls said: a law to a return, over the laws of one step.
 -- Assumes nothing.
-use Prim.Native.Nat.{ℕ, zero, suc, _-_, _^_, _≤_, _<_}
-use native.Mathlib.Decide.{decLt}
+use Prim.Native.Nat.{ℕ, _-_, _^_, _≤_, _<_}
 use native.Mathlib.Omega.{arith}
-use mathlib.Core.Path.{_≡_, refl, sym, _∙_, ap}
+use mathlib.Core.Path.{_≡_, sym, _∙_, ap, ap₂}
 use mathlib.Core.Bool.{Bool, true, false}
 use mathlib.Core.List.{List, []}
 use lib.Bits.{bitAnd}
 use lib.Dec.{eqb}
 use lib.ListN.{length, length-set}
-use borrow.Author.Tests.{eq-eqb, ne-eqb, le-leb, lt-leb, lt-ltb, le-ltb}
-use Rattle.model.specs.Signature.{bitAt, coversb}
-use Rattle.model.specs.Tables.{widthOf, rootOf, nextOf, positionOf, leftOf, rightOf, signatureOf}
+use borrow.Author.Tests.{eq-eqb, ne-eqb, le-ltb}
+use Rattle.model.specs.Signature.{coversb}
+use Rattle.model.specs.Tables.{widthOf, rootOf, nextOf, filedOf, signatureOf}
 use Rattle.model.specs.Ledger.{Report, bare}
 use Rattle.model.specs.Promises.{unsound, outputAfter}
 use Rattle.signature.proofs.Covering.{and-test}
-use Rattle.tables.specs.Walk.{EdgeOf}
+use Rattle.model.specs.Packed.{unpacked, Packs}
+use Rattle.model.proofs.Packing.{front-word}
 use Rattle.search.specs.Budget.{Budget, unfit, lent}
-use Rattle.search.specs.Marks.{mark, listed, cleared}
-use Rattle.search.specs.Search.{Sized, mayMark, chainTwin, leafTwin, testedAt, walkTwin, foundTwin}
-use Rattle.search.proofs.Steps.{chain-mark, leaf-passed, leaf-chain, walk-no-node, walk-right, walk-both, found-empty, found-unfit, found-list}
+use Rattle.search.specs.Marks.{isMarked, mark, listed, cleared}
+use Rattle.search.specs.Search.{SizedPacked, mayMark, chainTwin, leafTwin, walkTwin, foundTwin}
+use Rattle.search.proofs.Steps.{chain-stop, chain-mark, leaf-passed, leaf-chain, found-empty, found-unfit, found-list}
 use Rattle.search.proofs.Marks.{Went, walk-went}
 use Rattle.search.proofs.Any.{walk-from-cleared, grown-found}
 
@@ -37,6 +37,25 @@ module _ (sigs links : List ℕ) (q n c k b : ℕ) (m : List ℕ) where
       → (b ≡ 0 → ⊥) → 0 < k → mayMark sigs links q b m ≡ true → chainTwin sigs links q n c k b m ≡ chainTwin sigs links q (l′ .nodes) (l′ .compares) (l′ .blocks) b′ m′
   chain-goes l′ el b′ eb m′ em ne h may = rw (el, eb, em) (chain-mark sigs links q n c b m k ne h may)
 
+-- a head, b, that is a block of the tables: it may be marked where it is filed, unmarked and covers the query
+module _ (sigs links : List ℕ) (q n c k b : ℕ) (m : List ℕ) (from : 1 ≤ b) (to : b ≤ length sigs) where
+  head : b ≡ 0 → ⊥
+  head = omega arith
+
+  pub head-unfiled : filedOf links b ≡ 0 → chainTwin sigs links q n c k b m ≡ (unfit, m)
+  unfolding mayMark
+  head-unfiled e = chain-stop sigs links q n c b m k head (simp (ne-eqb b 0 head, le-ltb _ _ to, eq-eqb _ _ e))
+
+  module _ (filed : filedOf links b ≡ 0 → ⊥) where
+    pub head-marked : isMarked m b ≡ true → chainTwin sigs links q n c k b m ≡ (unfit, m)
+    unfolding mayMark
+    head-marked e = chain-stop sigs links q n c b m k head (simp (ne-eqb b 0 head, le-ltb _ _ to, ne-eqb _ _ filed, e))
+
+    pub head-goes : isMarked m b ≡ false → coversb (widthOf links) (signatureOf sigs b) q ≡ true → 0 < k → (l′ : Budget) → l′ ≡ record { nodes = n; compares = c; blocks = k - 1 }
+        → (b′ : ℕ) → b′ ≡ nextOf links b → (m′ : List ℕ) → m′ ≡ mark m b → chainTwin sigs links q n c k b m ≡ chainTwin sigs links q (l′ .nodes) (l′ .compares) (l′ .blocks) b′ m′
+    unfolding mayMark
+    head-goes e f h l′ el b′ eb m′ em = chain-goes sigs links q n c k b m l′ el b′ eb m′ em head h (simp (ne-eqb b 0 head, le-ltb _ _ to, ne-eqb _ _ filed, e, f))
+
 -- a leaf with l′ left after its compare
 module _ (sigs links : List ℕ) (q r : ℕ) (l : Budget) (m : List ℕ) (ne : r ≡ 0 → ⊥) (h : 0 < l .compares) (l′ : Budget)
     (e′ : l′ ≡ record { nodes = l .nodes; compares = l .compares - 1; blocks = l .blocks }) where
@@ -47,55 +66,22 @@ module _ (sigs links : List ℕ) (q r : ℕ) (l : Budget) (m : List ℕ) (ne : r
       → o ≡ chainTwin sigs links q (l′ .nodes) (l′ .compares) (l′ .blocks) r m → o ≡ leafTwin sigs links q r l m
   leaf-marks f o e = e ∙ (rw e′ (sym (leaf-chain sigs links q r l m ne h f)))
 
--- a node whose side for the query is e
-module _ (sigs links : List ℕ) (q i e : ℕ) (E : EdgeOf (length sigs) (widthOf links) links q i e) where
-  no-test : 1 < e → testedAt links (length sigs) i ≡ 0
-  unfolding testedAt
-  no-test h = go (decLt i (length sigs)) (decLt (widthOf links) (positionOf (length sigs) links i))
-    where
-      at : positionOf (length sigs) links i ≤ widthOf links → i < length sigs → (p : ℕ) → p ≡ positionOf (length sigs) links i → p ≡ 0
-      at g k zero d = refl
-      at g k (suc p) d = absurd (omega (arith, E .fit (k, omega arith, g)))
-
-      go : Dec (i < length sigs) → Dec (widthOf links < positionOf (length sigs) links i) → testedAt links (length sigs) i ≡ 0
-      go (no k) d = let le : length sigs ≤ i = omega arith in simp (le-leb (length sigs) i le)
-      go (yes k) (yes d) = simp (lt-leb (length sigs) i k, lt-ltb _ _ d)
-      go (yes k) (no d) =
-          let le : positionOf (length sigs) links i ≤ widthOf links = omega arith in
-          simp (lt-leb (length sigs) i k, le-ltb _ _ le) (at le k _ refl)
-
-  test-is : e ≤ 1 → positionOf (length sigs) links i ≡ testedAt links (length sigs) i
-  unfolding testedAt
-  test-is h = let f = E .node h in rw (lt-leb (length sigs) i (f .0), le-ltb _ _ (f .2))
-
-module _ (sigs links : List ℕ) (q r u : ℕ) (l : Budget) (m : List ℕ) (lt : length sigs < r) (h : 1 < l .nodes) (e : ℕ)
-    (E : EdgeOf (length sigs) (widthOf links) links q (r - length sigs) e) where
-  pub node-unfit : 1 < e → (unfit, m) ≡ walkTwin u sigs links q r l m
-  node-unfit g = sym (walk-no-node sigs links q r l m lt u h (no-test sigs links q (r - length sigs) e E g))
-
-  module _ (nu : u ≡ 0 → ⊥) (le : e ≤ 1) (l′ : Budget) (e′ : l′ ≡ record { nodes = l .nodes - 1; compares = l .compares; blocks = l .blocks })
-      (y : ℕ) (ey : y ≡ rightOf (length sigs) links (r - length sigs)) where
-    pub node-right : e ≡ 1 → (o : Budget × List ℕ) → o ≡ walkTwin (u - 1) sigs links q y l′ m → o ≡ walkTwin u sigs links q r l m
-    node-right one o f =
-        let p = E .node le .1 in
-        f ∙ (rw ey (sym (walk-right sigs links q r l m lt u nu h _ (test-is sigs links q (r - length sigs) e E le) (omega arith) l′ e′ (eq-eqb _ _ (sym (E .bit le) ∙ one)))))
-
-    pub node-both : (e ≡ 1 → ⊥) → (x : ℕ) → x ≡ leftOf (length sigs) links (r - length sigs) → (a : Budget) (m₁ : List ℕ)
-        → _≡_ {A = Budget × List ℕ} (a, m₁) (walkTwin (u - 1) sigs links q x l′ m) → (o : Budget × List ℕ) → o ≡ walkTwin (u - 1) sigs links q y a m₁ → o ≡ walkTwin u sigs links q r l m
-    node-both two x ex a m₁ f o g =
-        let p = E .node le .1 in
-        let z : eqb (bitAt (widthOf links) q (positionOf (length sigs) links (r - length sigs))) 1 ≡ false = ne-eqb _ _ (λ d. two (E .bit le ∙ d)) in
-        g ∙ (rw ey (sym (walk-both sigs links q r l m lt u nu h _ (test-is sigs links q (r - length sigs) e E le) (omega arith) l′ e′ z a m₁ (rw ex at f))))
-
 -- marks that come back as they were handed on
 pub marks-back : (l : Budget) (m m′ : List ℕ) (o : Budget × List ℕ) → m′ ≡ m → (l, m) ≡ o → (l, m′) ≡ o
 marks-back l m m′ o e d = rw e d
 
 -- a walk keeps the marks' length, so what stood beside them fits them still
-pub still-sized : (sigs links : List ℕ) (q u r : ℕ) (l l′ : Budget) (m m′ : List ℕ) → Sized sigs links m q → (l′, m′) ≡ walkTwin u sigs links q r l m → Sized sigs links m′ q
-still-sized sigs links q u r l l′ m m′ s e =
-    let as-long : length m′ ≡ length m = ap (λ (o : Budget × List ℕ). length (o .1)) e ∙ walk-went sigs links q u r l m (s .room) .grown .long in
-    record { few = s .few; long = s .long; room = omega (arith, s .room); wide = s .wide; low = s .low }
+pub still-sized : (sigs links nodes : List ℕ) (q u r : ℕ) (l l′ : Budget) (m m′ : List ℕ) → SizedPacked sigs links nodes m q → (l′, m′) ≡ walkTwin u sigs (unpacked links nodes) q r l m → SizedPacked sigs links nodes m′ q
+still-sized sigs links nodes q u r l l′ m m′ p e =
+    let s = p .sized in
+    let as-long : length m′ ≡ length m = ap (λ (o : Budget × List ℕ). length (o .1)) e ∙ walk-went sigs (unpacked links nodes) q u r l m (s .room) .grown .long in
+    record { sized = record { few = s .few; long = s .long; room = omega (arith, s .room); wide = s .wide; low = s .low }; packs = p .packs }
+
+-- the width and the root as the code reads them
+pub walked-rows : (sigs links nodes : List ℕ) → Packs (length sigs) links nodes → (q : ℕ) (l : Budget) (z : List ℕ) (o : Budget × List ℕ)
+    → o ≡ walkTwin (widthOf links) sigs (unpacked links nodes) q (rootOf links) l z → o ≡ walkTwin (widthOf (unpacked links nodes)) sigs (unpacked links nodes) q (rootOf (unpacked links nodes)) l z
+walked-rows sigs links nodes P q l z o e =
+    e ∙ ap₂ (λ (F r : ℕ). walkTwin F sigs (unpacked links nodes) q r l z) (sym (front-word (length sigs) links nodes P 0 (omega arith))) (sym (front-word (length sigs) links nodes P 2 (omega arith)))
 
 -- a search that no question refuses: z is the cleared marks, l₀ what is lent, w what the walk leaves
 module _ (sigs links : List ℕ) (q : ℕ) (m out z : List ℕ) (c : z ≡ cleared (length sigs) m) (o : Report) where

@@ -4,14 +4,15 @@
 use Prim.Native.Nat.{ℕ, zero, suc, _-_, _^_, _≤_, _<_}
 use mathlib.Core.Path.{_≡_}
 use mathlib.Core.Bool.{Bool, true, false}
-use mathlib.Core.List.{List}
+use mathlib.Core.List.{List, []}
 use lib.Dec.{eqb, leb, ltb}
-use lib.ListN.{length}
+use lib.ListN.{length, getD}
 use denote.Ref.{RefT}
 use Rattle.model.specs.Basics.{pick}
 use Rattle.model.specs.Limits.{widest, mostBlocks}
 use Rattle.model.specs.Signature.{bitAt, coversb}
-use Rattle.model.specs.Tables.{linksOf, widthOf, rootOf, nextOf, filedOf, positionOf, leftOf, rightOf, signatureOf}
+use Rattle.model.specs.Tables.{filedAt, widthOf, rootOf, nextOf, filedOf, positionOf, leftOf, rightOf, signatureOf}
+use Rattle.model.specs.Packed.{positionIn, leftIn, rightIn, Packs}
 use Rattle.model.specs.Ledger.{Report, bare}
 use Rattle.model.specs.Promises.{unsound, outputAfter}
 use Rattle.search.specs.Budget.{Budget, unfit, lent}
@@ -20,10 +21,19 @@ use Rattle.search.specs.Marks.{isMarked, mark, listed, cleared}
 -- what the walk asks of the slices and the query, besides fitting words
 pub record Sized (sigs links marks : List ℕ) (q : ℕ) : Type 0 where
   pub few : length sigs ≤ mostBlocks
-  pub long : length links ≡ linksOf (length sigs)
+  pub long : filedAt (length sigs) < length links
   pub room : length sigs ≤ length marks
   pub wide : widthOf links ≤ widest
   pub low : q < 2 ^ widthOf links
+
+-- and of the nodes
+pub record SizedPacked (sigs links nodes marks : List ℕ) (q : ℕ) : Type 0 where
+  pub sized : Sized sigs links marks q
+  pub packs : Packs (length sigs) links nodes
+
+-- the slice that stands at index i of an array of slices
+abbrev pub sliceAt : List (RefT (List ℕ)) → ℕ → List ℕ
+sliceAt words i = getD words i (record { ptr = (0, 0); name = 0; now = [] }) .now
 
 -- two references are one loan: what was lent behind the one comes back from behind the other
 abbrev pub SameLoan : {X : Type 0} → RefT X → RefT X → Type 0
@@ -80,6 +90,31 @@ unfoldable pub walkTwin : ℕ → List ℕ → List ℕ → ℕ → ℕ → Budg
 walkTwin zero sigs links q r l m = pick (leb r (length sigs)) (leafTwin sigs links q r l m) (unfit, m)
 walkTwin (suc u) sigs links q r l m =
     pick (leb r (length sigs)) (leafTwin sigs links q r l m) (nodeTwin (walkTwin u sigs links q) links (length sigs) q (r - length sigs) l m)
+
+-- the position that a node with word w tests, or 0 where it tests none of 1 to F
+unfoldable pub testedIn : ℕ → ℕ → ℕ
+testedIn F w = pick (ltb F (positionIn w)) 0 (positionIn w)
+
+-- the word of the node that reference r leads to, or 0, which tests no position, where there is no such node
+unfoldable pub wordAt : ℕ → List ℕ → ℕ → ℕ
+wordAt B nodes r = pick (leb B (r - B)) 0 (getD nodes (r - B - 1) 0)
+
+-- does a query whose side is e go left at a node, to another node at reference r?
+abbrev pub walksLeft : ℕ → ℕ → ℕ → Bool
+walksLeft B e r = pick (eqb e 1) false (ltb B r)
+
+-- what the left side leaves of l and m: all, where the query goes right only, or what its visit leaves
+abbrev pub leftTwin : ℕ → Budget → List ℕ → Budget × List ℕ → Budget × List ℕ
+leftTwin e l m visited = pick (eqb e 1) (l, m) visited
+
+-- the subtree at a node with word w, with u positions untested
+unfoldable pub wordTwin : ℕ → List ℕ → List ℕ → ℕ → ℕ → Budget → List ℕ → Budget × List ℕ
+wordTwin zero sigs links q w l m = (unfit, m)
+wordTwin (suc u) sigs links q w l m =
+    pick (leb (l .nodes) 1) (unfit, m)
+    (pick (eqb (testedIn (widthOf links) w) 0) (unfit, m)
+    (sidesTwin (walkTwin u sigs links q) (eqb (bitAt (widthOf links) q (testedIn (widthOf links) w)) 1) (leftIn w) (rightIn w)
+    (record { nodes = l .nodes - 1; compares = l .compares; blocks = l .blocks }) m))
 
 -- what a search of B blocks leaves after a walk that left w: the report, the marks and the output
 abbrev pub listTwin : ℕ → Budget × List ℕ → List ℕ → Report × List ℕ × List ℕ

@@ -7,10 +7,11 @@ mod walk;
 ghost use mathlib.Core.Path.{_≡_};
 ghost use Prim.Native.Nat.{_-_, _≤_};
 ghost use lib.ListN.{length};
-ghost use Rattle.model.specs.Questions.{asksTables, searchRefusal};
+ghost use Rattle.model.specs.Questions.{ask, asksTables, searchRefusal};
+ghost use Rattle.model.specs.Packed.{unpacked};
+ghost use Rattle.model.specs.PackedPromises.{packedFit, PackedSearch};
 ghost use Rattle.model.specs.Ledger.{bare};
-ghost use Rattle.model.specs.Promises.{SearchPromise};
-ghost use Rattle.search.specs.Search.{Sized, foundTwin};
+ghost use Rattle.search.specs.Search.{SizedPacked, foundTwin};
 ghost use Rattle.search.specs.Reported.{reported};
 
 // What a search reports: the answer, 0 or the refusal, the blocks listed, the leaves compared and the bits read.
@@ -33,10 +34,17 @@ const OUTPUT: u32 = 10;
 const UNSOUND: u32 = 11;
 
 // The number of the first question whose answer is no, or 0.
-fn ask(signatures: &[u64], links: &[u32], query: u64, marks: usize, output: usize) -> u32
-    ensures { λ r. ⌜ r ≡ searchRefusal (asksTables (now (signatures .entry)) (now (links .entry))) query marks output ⌝ }
+fn asked(
+    signatures: &[u64],
+    links: &[u32],
+    nodes: &[u64],
+    query: u64,
+    marks: usize,
+    output: usize,
+) -> u32
+    ensures { λ r. ⌜ r ≡ ask 4 (packedFit (now (signatures .entry)) (now (links .entry)) (now (nodes .entry))) (searchRefusal (asksTables (now (signatures .entry)) (unpacked (now (links .entry)) (now (nodes .entry)))) query marks output) ⌝ }
 {
-    if !tables::front::tables_fit(signatures, links) {
+    if !tables::front::tables_fit(signatures, links, nodes) {
         return TABLES;
     }
     if !signature::fits(query, links[0]) {
@@ -72,16 +80,17 @@ fn used(blocks: usize, left: u64) -> u32
 }
 
 // A search that no question refuses.
-fn find(
-    signatures: &[u64],
+fn find<'b>(
+    signatures: &'b [u64],
     links: &[u32],
+    nodes: &'b [u64],
     query: u64,
     marks: &mut [u8],
     output: &mut [u32],
 ) -> Report
-    requires { ⌜ Sized (now signatures) (now links) (now marks) query ⌝ }
+    requires { ⌜ SizedPacked (now signatures) (now links) (now nodes) (now marks) query ⌝ }
     requires { ⌜ (1 ≤ length (now signatures)) × (length (now signatures) ≤ length (now output)) ⌝ }
-    ensures { λ r. ⌜ (reported r, now (marks .exit), now (output .exit)) ≡ foundTwin (now (signatures .entry)) (now (links .entry)) query (now (marks .entry)) (now (output .entry)) ⌝ }
+    ensures { λ r. ⌜ (reported r, now (marks .exit), now (output .exit)) ≡ foundTwin (now (signatures .entry)) (unpacked (now (links .entry)) (now (nodes .entry))) query (now (marks .entry)) (now (output .entry)) ⌝ }
 {
     let blocks = signatures.len();
     marking::clear_marks(marks, blocks);
@@ -92,6 +101,7 @@ fn find(
     let left = walk::walk_tree(
         signatures,
         links,
+        nodes,
         marks,
         query,
         root,
@@ -112,18 +122,19 @@ fn find(
 }
 
 // Lists the filed blocks whose signatures cover the query.
-pub fn search(
-    signatures: &[u64],
+pub fn search<'b>(
+    signatures: &'b [u64],
     links: &[u32],
+    nodes: &'b [u64],
     query: u64,
     marks: &mut [u8],
     output: &mut [u32],
 ) -> Report
-    ensures { λ r. ⌜ SearchPromise (now (signatures .entry)) (now (links .entry)) query (now (marks .entry)) (now (output .entry)) (record { answer = r .answer; found = r .found; compares = r .compares; bits = r .bits }) (now (marks .exit)) (now (output .exit)) ⌝ }
+    ensures { λ r. ⌜ PackedSearch (now (signatures .entry)) (now (links .entry)) (now (nodes .entry)) query (now (marks .entry)) (now (output .entry)) (record { answer = r .answer; found = r .found; compares = r .compares; bits = r .bits }) (now (marks .exit)) (now (output .exit)) ⌝ }
 {
-    let no = ask(signatures, links, query, marks.len(), output.len());
+    let no = asked(signatures, links, nodes, query, marks.len(), output.len());
     if no == 0 {
-        return find(signatures, links, query, marks, output);
+        return find(signatures, links, nodes, query, marks, output);
     }
     no_list(no)
 }

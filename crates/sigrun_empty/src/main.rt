@@ -1,7 +1,8 @@
 // sigrun as it is, on another input: none, which prints nothing.
 fn main() {
     let mut signatures = [0u64; 1024];
-    let mut links = [0u32; 5122];
+    let mut links = [0u32; 2053];
+    let mut nodes = [0u64; 1023];
     let mut scratch = [0u32; 1024];
     let mut marks = [0u8; 1024];
     let mut output = [0u32; 1024];
@@ -10,6 +11,7 @@ fn main() {
     runner::serve(
         &mut signatures,
         &mut links,
+        &mut nodes,
         &mut scratch,
         &mut marks,
         &mut output,

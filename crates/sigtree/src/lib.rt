@@ -3,17 +3,22 @@
 mod slip;
 
 pub use slip::carry_out;
-ghost use Rattle.model.specs.Promises.{ClearPromise, FilePromise, WithdrawPromise, RebuildPromise, SearchPromise, AuditPromise};
-ghost use Rattle.model.specs.Lists.{SlipPromise};
+ghost use Rattle.model.specs.PackedPromises.{PackedClear, PackedFile, PackedWithdraw, PackedRebuild, PackedSearch, PackedAudit, PackPromise, UnpackPromise};
+ghost use Rattle.model.specs.PackedLists.{PackedSlip};
 ghost use Rattle.sigtree.specs.Face.{lent, reported};
 ghost use Rattle.model.specs.Words.{SignPromise, PlacePromise};
 
 // Empties the index and sets its width.
 #[no_mangle]
-pub extern "C" fn sigtree_clear(signatures: &mut [u64], links: &mut [u32], width: u32) -> u32
-    ensures { λ r. ⌜ ClearPromise (now (signatures .entry)) (now (links .entry)) width r (now (signatures .exit)) (now (links .exit)) ⌝ }
+pub extern "C" fn sigtree_clear(
+    signatures: &mut [u64],
+    links: &mut [u32],
+    nodes: &mut [u64],
+    width: u32,
+) -> u32
+    ensures { λ r. ⌜ PackedClear (now (signatures .entry)) (now (links .entry)) (now (nodes .entry)) width r (now (signatures .exit)) (now (links .exit)) (now (nodes .exit)) ⌝ }
 {
-    clear::clear(signatures, links, width)
+    clear::clear(signatures, links, nodes, width)
 }
 
 // Files a block with its signature.
@@ -21,35 +26,47 @@ pub extern "C" fn sigtree_clear(signatures: &mut [u64], links: &mut [u32], width
 pub extern "C" fn sigtree_file(
     signatures: &mut [u64],
     links: &mut [u32],
+    nodes: &mut [u64],
     block: u32,
     signature: u64,
 ) -> u32
-    ensures { λ r. ⌜ FilePromise (now (signatures .entry)) (now (links .entry)) block signature r (now (signatures .exit)) (now (links .exit)) ⌝ }
+    ensures { λ r. ⌜ PackedFile (now (signatures .entry)) (now (links .entry)) (now (nodes .entry)) block signature r (now (signatures .exit)) (now (links .exit)) (now (nodes .exit)) ⌝ }
 {
-    file::file(signatures, links, block, signature)
+    file::file(signatures, links, nodes, block, signature)
 }
 
 // Takes a block out.
 #[no_mangle]
-pub extern "C" fn sigtree_withdraw(signatures: &mut [u64], links: &mut [u32], block: u32) -> u32
-    ensures { λ r. ⌜ WithdrawPromise (now (signatures .entry)) (now (links .entry)) block r (now (signatures .exit)) (now (links .exit)) ⌝ }
+pub extern "C" fn sigtree_withdraw(
+    signatures: &mut [u64],
+    links: &mut [u32],
+    nodes: &mut [u64],
+    block: u32,
+) -> u32
+    ensures { λ r. ⌜ PackedWithdraw (now (signatures .entry)) (now (links .entry)) (now (nodes .entry)) block r (now (signatures .exit)) (now (links .exit)) (now (nodes .exit)) ⌝ }
 {
-    withdraw::withdraw(signatures, links, block)
+    withdraw::withdraw(signatures, links, nodes, block)
 }
 
 // Makes the tree anew.
 #[no_mangle]
-pub extern "C" fn sigtree_rebuild(signatures: &[u64], links: &mut [u32], scratch: &mut [u32]) -> u32
-    ensures { λ r. ⌜ RebuildPromise (now (signatures .entry)) (now (links .entry)) (now (scratch .entry)) r (now (links .exit)) (now (scratch .exit)) ⌝ }
+pub extern "C" fn sigtree_rebuild(
+    signatures: &[u64],
+    links: &mut [u32],
+    nodes: &mut [u64],
+    scratch: &mut [u32],
+) -> u32
+    ensures { λ r. ⌜ PackedRebuild (now (signatures .entry)) (now (links .entry)) (now (nodes .entry)) (now (scratch .entry)) r (now (links .exit)) (now (nodes .exit)) (now (scratch .exit)) ⌝ }
 {
-    rebuild::rebuild(signatures, links, scratch)
+    rebuild::rebuild(signatures, links, nodes, scratch)
 }
 
 // Lists the filed blocks whose signature covers the query.
 #[no_mangle]
-pub extern "C" fn sigtree_search(
-    signatures: &[u64],
+pub extern "C" fn sigtree_search<'b>(
+    signatures: &'b [u64],
     links: &[u32],
+    nodes: &'b [u64],
     query: u64,
     marks: &mut [u8],
     output: &mut [u32],
@@ -57,9 +74,9 @@ pub extern "C" fn sigtree_search(
     compares: &mut u32,
     bits: &mut u32,
 ) -> u32
-    ensures { λ r. ⌜ SearchPromise (now (signatures .entry)) (now (links .entry)) query (now (marks .entry)) (now (output .entry)) (reported r (now (found .exit)) (now (compares .exit)) (now (bits .exit))) (now (marks .exit)) (now (output .exit)) ⌝ }
+    ensures { λ r. ⌜ PackedSearch (now (signatures .entry)) (now (links .entry)) (now (nodes .entry)) query (now (marks .entry)) (now (output .entry)) (reported r (now (found .exit)) (now (compares .exit)) (now (bits .exit))) (now (marks .exit)) (now (output .exit)) ⌝ }
 {
-    let report = search::search(signatures, links, query, marks, output);
+    let report = search::search(signatures, links, nodes, query, marks, output);
     *found = report.found;
     *compares = report.compares;
     *bits = report.bits;
@@ -68,10 +85,36 @@ pub extern "C" fn sigtree_search(
 
 // Are the tables sound?
 #[no_mangle]
-pub extern "C" fn sigtree_audit(signatures: &[u64], links: &[u32]) -> u32
-    ensures { λ r. ⌜ AuditPromise (now (signatures .entry)) (now (links .entry)) r ⌝ }
+pub extern "C" fn sigtree_audit(signatures: &[u64], links: &[u32], nodes: &[u64]) -> u32
+    ensures { λ r. ⌜ PackedAudit (now (signatures .entry)) (now (links .entry)) (now (nodes .entry)) r ⌝ }
 {
-    audit::audit(signatures, links)
+    audit::audit(signatures, links, nodes)
+}
+
+// From tables of 5B + 2 links to packed ones.
+#[no_mangle]
+pub extern "C" fn sigtree_pack(
+    signatures: &[u64],
+    old: &[u32],
+    links: &mut [u32],
+    nodes: &mut [u64],
+) -> u32
+    ensures { λ r. ⌜ PackPromise (now (signatures .entry)) (now (old .entry)) (now (links .entry)) (now (nodes .entry)) r (now (links .exit)) (now (nodes .exit)) ⌝ }
+{
+    convert::pack(signatures, old, links, nodes)
+}
+
+// And back.
+#[no_mangle]
+pub extern "C" fn sigtree_unpack(
+    signatures: &[u64],
+    links: &[u32],
+    nodes: &[u64],
+    old: &mut [u32],
+) -> u32
+    ensures { λ r. ⌜ UnpackPromise (now (signatures .entry)) (now (links .entry)) (now (nodes .entry)) (now (old .entry)) r (now (old .exit)) ⌝ }
+{
+    convert::unpack(signatures, links, nodes, old)
 }
 
 // Carries out a slip: any bytes of any length.
@@ -80,6 +123,7 @@ pub extern "C" fn sigtree_slip(
     slip: &[u8],
     signatures: &mut [u64],
     links: &mut [u32],
+    nodes: &mut [u64],
     scratch: &mut [u32],
     marks: &mut [u8],
     output: &mut [u32],
@@ -87,9 +131,9 @@ pub extern "C" fn sigtree_slip(
     compares: &mut u32,
     bits: &mut u32,
 ) -> u32
-    ensures { λ r. ⌜ SlipPromise (now (slip .entry)) (lent (now (signatures .entry)) (now (links .entry)) (now (scratch .entry)) (now (marks .entry)) (now (output .entry))) (reported r (now (found .exit)) (now (compares .exit)) (now (bits .exit))) (lent (now (signatures .exit)) (now (links .exit)) (now (scratch .exit)) (now (marks .exit)) (now (output .exit))) ⌝ }
+    ensures { λ r. ⌜ PackedSlip (now (slip .entry)) (lent (now (signatures .entry)) (now (links .entry)) (now (nodes .entry)) (now (scratch .entry)) (now (marks .entry)) (now (output .entry))) (reported r (now (found .exit)) (now (compares .exit)) (now (bits .exit))) (lent (now (signatures .exit)) (now (links .exit)) (now (nodes .exit)) (now (scratch .exit)) (now (marks .exit)) (now (output .exit))) ⌝ }
 {
-    let carried = slip::carry_out(slip, signatures, links, scratch, marks, output);
+    let carried = slip::carry_out(slip, signatures, links, nodes, scratch, marks, output);
     *found = carried.found;
     *compares = carried.compares;
     *bits = carried.bits;

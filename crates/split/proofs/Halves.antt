@@ -1,14 +1,14 @@
 -- What `build` knows once it has split its group, and what follows for the reference of each half, for its two calls of itself and
 -- for the words that it leaves.
 -- Assumes nothing.
-use Prim.Native.Nat.{ℕ, zero, suc, _+_, _-_, _≤_, _<_}
+use Prim.Native.Nat.{ℕ, zero, suc, _+_, _-_, _^_, _≤_, _<_}
 use native.Mathlib.Omega.{arith}
 use mathlib.Core.Path.{_≡_, refl, sym, _∙_, ap}
 use mathlib.Core.List.{List, [], _∷_, _++_}
 use lib.ListN.{length, getD, take, drop, length-append, length-drop}
 use lib.Seq.{sets, length-take-le, drop-at, take-all, getD-take, getD-drop}
 use Rattle.model.specs.Build.{bestPosition}
-use Rattle.model.specs.Tables.{linksOf, positionAt, leftAt, rightAt, signatureOf}
+use Rattle.model.specs.Tables.{positionAt, leftAt, rightAt, signatureOf}
 use Rattle.model.specs.Stores.{_↤_, stores}
 use Rattle.model.specs.Rebuild.{groupReference, groupNodes}
 use Rattle.model.proofs.Stores.{sets-append}
@@ -17,7 +17,9 @@ use Rattle.split.specs.Split.{Blocks, Group, Parted, Halved, referenceTo
 use Rattle.split.proofs.Sums.{same-sym, blocks-same, blocks-take, blocks-drop}
 use Rattle.split.proofs.Sides.{parted-left, parted-right}
 use Rattle.split.proofs.Best.{apart-same}
-use Rattle.split.proofs.Nodes.{node-stores, reference-by, reference-same, half, Sizes, sizes, apart-half, nodes-step, nodes-length, nodes-same, nodes-few}
+use Rattle.model.proofs.Best.{best-position}
+use Rattle.tables.proofs.Freeing.{node-stores}
+use Rattle.split.proofs.Nodes.{reference-by, reference-same, half, Sizes, sizes, apart-half, nodes-step, nodes-length, nodes-same, nodes-few}
 
 -- a list parted at its best position
 pub halve : (F : ℕ) (of : ℕ → ℕ) (before after : List ℕ) (p k : ℕ) → p ≡ bestPosition F of before → Parted F of p before after k → Halved F of before after p k
@@ -46,11 +48,11 @@ more-to (suc zero) head node h = absurd (omega arith)
 more-to (suc (suc n)) head node h = refl
 
 -- the arguments of a call, and the group after its split, of k blocks with bit 0
-pub record Known (F : ℕ) (sigs g after links : List ℕ) (p k i t : ℕ) : Type 0 where
+pub record Known (F : ℕ) (sigs g after nodes : List ℕ) (p k i t : ℕ) : Type 0 where
   pub measure : length g ≡ t
   pub group : Group F sigs g
   pub small : length sigs ≤ 65535
-  pub room : length links ≡ linksOf (length sigs)
+  pub room : length nodes + 1 ≡ length sigs
   pub node : (1 ≤ i) × (i + length g ≤ length sigs + 1)
   pub halved : Halved F (signatureOf sigs) g after p k
   pub many : 2 ≤ length g
@@ -64,7 +66,7 @@ pub record Bounds (B n after k i : ℕ) : Type 0 where
   pub from : 1 ≤ i
   pub to : i + n ≤ B + 1
 
-module _ (F : ℕ) (sigs g after links : List ℕ) (p k i t : ℕ) (h : Known F sigs g after links p k i t) where
+module _ (F : ℕ) (sigs g after nodes : List ℕ) (p k i t : ℕ) (h : Known F sigs g after nodes p k i t) where
   abbrev B : ℕ
   B = length sigs
 
@@ -138,12 +140,36 @@ module _ (F : ℕ) (sigs g after links : List ℕ) (p k i t : ℕ) (h : Known F 
       let r = reference-by B high (i + k) in
       cc
 
+  -- what is stored fits a node
+  small-reference : (n head node : ℕ) → head ≤ 131070 → node ≤ 131070 → referenceTo n head node < 2 ^ 17
+  unfolding referenceTo
+  small-reference zero head node a b = omega arith
+  small-reference (suc zero) head node a b = omega arith
+  small-reference (suc (suc n)) head node a b = omega arith
+
+  block-at : (j : ℕ) → j < length after → getD after j 0 ≤ length sigs
+  unfolding Blocks
+  block-at j l = after-blocks j l .1
+
+  pub node-fits : (left right : ℕ) → left ≡ referenceTo k (getD after 0 0) (length sigs + i + 1) → right ≡ referenceTo (length g - k) (getD after k 0) (length sigs + i + k) → (p < 2 ^ 30) × (left < 2 ^ 17) × (right < 2 ^ 17)
+  node-fits left right el er =
+      let q = some in
+      let s = h .small in
+      let n = after-length in
+      let m = h .node in
+      let w = h .group .to in
+      let b = best-position F (signatureOf sigs) g (h .group .from) .to in (
+        omega (arith, h .halved .best),
+        rw el (small-reference k (getD after 0 0) (length sigs + i + 1) (omega (arith, block-at 0 (omega arith))) (omega arith)),
+        rw er (small-reference (length g - k) (getD after k 0) (length sigs + i + k) (omega (arith, block-at k (omega arith))) (omega arith)),
+      )
+
   -- what the call for the left half asks
-  pub left-asks : (l : List ℕ) → length l ≡ length links → (length low < t) × (Group F sigs low × (((B ≤ 65535) × (length l ≡ linksOf B)) × ((1 ≤ i + 1) × (i + 1 + length low ≤ B + 1))))
+  pub left-asks : (l : List ℕ) → length l ≡ length nodes → (length low < t) × (Group F sigs low × (((B ≤ 65535) × (length l + 1 ≡ B)) × ((1 ≤ i + 1) × (i + 1 + length low ≤ B + 1))))
   left-asks l e =
       let n = low-length in
       let q = some in
-      (omega (arith, h .measure), (low-group, ((h .small, e ∙ h .room), omega (arith, h .node))))
+      (omega (arith, h .measure), (low-group, ((h .small, ap (λ (m : ℕ). m + 1) e ∙ h .room), omega (arith, h .node))))
 
   -- the group after the call for the left half, from k on
   module _ (ys : List ℕ) (same : length ys ≡ length (take k after)) where
@@ -175,24 +201,24 @@ module _ (F : ℕ) (sigs g after links : List ℕ) (p k i t : ℕ) (h : Known F 
         omega (arith, length-append (take k (ys ++ drop k after)) (zs ++ D), length-append zs D)
 
     -- what the call for the right half asks
-    pub right-asks : (l : List ℕ) → length l ≡ length links
+    pub right-asks : (l : List ℕ) → length l ≡ length nodes
         → (length (take (length (ys ++ drop k after) - k) (drop k (ys ++ drop k after))) < t)
         × (Group F sigs (take (length (ys ++ drop k after) - k) (drop k (ys ++ drop k after)))
-        × (((B ≤ 65535) × (length l ≡ linksOf B))
+        × (((B ≤ 65535) × (length l + 1 ≡ B))
         × ((1 ≤ i + k) × (i + k + length (take (length (ys ++ drop k after) - k) (drop k (ys ++ drop k after))) ≤ B + 1))))
     right-asks l e =
         let n = high-length in
         let q = some in
-        rw rest (omega (arith, h .measure), (high-group, ((h .small, e ∙ h .room), omega (arith, h .node))))
+        rw rest (omega (arith, h .measure), (high-group, ((h .small, ap (λ (m : ℕ). m + 1) e ∙ h .room), omega (arith, h .node))))
 
   -- the words at the end
-  pub finish : (left right : ℕ) (l0 l1 l2 : List ℕ)
+  pub finish : (links : List ℕ) (left right : ℕ) (l0 l1 l2 : List ℕ)
       → left ≡ referenceTo k (getD after 0 0) (B + i + 1) → right ≡ referenceTo (length g - k) (getD after k 0) (B + i + k)
       → l0 ≡ stores links ((positionAt B i ↤ p) ∷ (leftAt B i ↤ left) ∷ (rightAt B i ↤ right) ∷ [])
       → l1 ≡ sets l0 (positionAt B (i + 1)) (groupNodes (length low) F sigs low (i + 1))
       → l2 ≡ sets l1 (positionAt B (i + k)) (groupNodes (length high) F sigs high (i + k))
       → l2 ≡ sets links (positionAt B i) (groupNodes (length g) F sigs g i)
-  finish left right l0 l1 l2 er es e0 e1 e2 =
+  finish links left right l0 l1 l2 er es e0 e1 e2 =
       let b = h .group .below in
       let q = some in
       let n : length g ≡ suc (length g - 1) = omega (arith, h .many) in

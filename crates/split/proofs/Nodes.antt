@@ -6,23 +6,14 @@ use native.Mathlib.Omega.{arith}
 use mathlib.Core.Path.{_≡_, refl, sym}
 use mathlib.Core.List.{List, [], _∷_, _++_}
 use lib.ListN.{length, getD, length-append}
-use lib.Seq.{sets}
 use Rattle.model.specs.Build.{side, bestPosition}
-use Rattle.model.specs.Tables.{positionAt, leftAt, rightAt, signatureOf}
-use Rattle.model.specs.Stores.{_↤_, stores}
+use Rattle.model.specs.Tables.{signatureOf}
 use Rattle.model.specs.Rebuild.{groupReference, groupNodes}
 use Rattle.model.proofs.Members.{Same, same-length}
 use Rattle.model.proofs.Sides.{sides-length}
 use Rattle.model.proofs.Build.{side-same, best-same}
 use Rattle.split.specs.Split.{Apart, Below, referenceTo}
 use Rattle.split.proofs.Best.{splits, apart-side}
-
--- a node's three stores, one after the other
-pub node-stores : (B : ℕ) (l : List ℕ) (i p x y : ℕ) → stores l ((positionAt B i ↤ p) ∷ (leftAt B i ↤ x) ∷ (rightAt B i ↤ y) ∷ []) ≡ sets l (positionAt B i) (p ∷ x ∷ y ∷ [])
-node-stores B l i p x y =
-    let e : leftAt B i ≡ suc (positionAt B i) = omega arith in
-    let f : rightAt B i ≡ suc (suc (positionAt B i)) = omega arith in
-    rw (e, f) refl
 
 -- the reference to a group, by its size and its first block
 pub reference-by : (B : ℕ) (g : List ℕ) (i : ℕ) → groupReference B g i ≡ referenceTo (length g) (getD g 0 0) (B + i)

@@ -1,12 +1,14 @@
 // A group of head blocks, one for each of its distinct signatures, becomes a tree: it is parted in place at the position where the
 // smaller side is largest, its node is written, and each half of it is lent to a call of its own.
 ghost use mathlib.Core.Path.{_≡_};
-ghost use Prim.Native.Nat.{_+_, _^_, _<_, _≤_};
+ghost use Prim.Native.Nat.{ℕ, _+_, _^_, _<_, _≤_};
 ghost use lib.ListN.{length};
 ghost use lib.Seq.{sets};
 ghost use Rattle.model.specs.Signature.{bitAt};
 ghost use Rattle.model.specs.Build.{side, smaller, bestPosition};
-ghost use Rattle.model.specs.Tables.{linksOf, positionAt, signatureOf};
+ghost use mathlib.Core.List.{List};
+ghost use Rattle.model.specs.Tables.{positionAt, signatureOf};
+ghost use Rattle.model.specs.Packed.{unpacked, Packs};
 ghost use Rattle.model.specs.Rebuild.{groupNodes};
 ghost use Rattle.split.specs.Split.{Blocks, Group, Parted, Halved, referenceTo};
 use tables::nodes::set_node;
@@ -124,12 +126,12 @@ pub fn reference(size: usize, head: u32, node: usize) -> u32
     node as u32
 }
 
-// Writes the nodes of the group's tree from node `first` on: a node, all of its left side, then its right.
-pub fn build(signatures: &[u64], links: &mut [u32], group: &mut [u32], width: u32, first: usize)
+// Writes the nodes of the group's tree from node `first` on, beside any links: a node, all of its left side, then its right.
+pub fn build(signatures: &[u64], nodes: &mut [u64], group: &mut [u32], width: u32, first: usize)
     requires { ⌜ Group width (now signatures) (now group) ⌝ }
-    requires { ⌜ (length (now signatures) ≤ 65535) × (length (now links) ≡ linksOf (length (now signatures))) ⌝ }
+    requires { ⌜ (length (now signatures) ≤ 65535) × (length (now nodes) + 1 ≡ length (now signatures)) ⌝ }
     requires { ⌜ (1 ≤ first) × (first + length (now group) ≤ length (now signatures) + 1) ⌝ }
-    ensures { λ _. ⌜ now (links .exit) ≡ sets (now (links .entry)) (positionAt (length (now (signatures .entry))) first) (groupNodes (length (now (group .entry))) width (now (signatures .entry)) (now (group .entry)) first) ⌝ }
+    ensures { λ _. ⌜ ((links : List ℕ) → Packs (length (now (signatures .entry))) links (now (nodes .entry)) → unpacked links (now (nodes .exit)) ≡ sets (unpacked links (now (nodes .entry))) (positionAt (length (now (signatures .entry))) first) (groupNodes (length (now (group .entry))) width (now (signatures .entry)) (now (group .entry)) first)) ⌝ }
 {
     let size = group.len();
     if size < 2 {
@@ -140,7 +142,7 @@ pub fn build(signatures: &[u64], links: &mut [u32], group: &mut [u32], width: u3
     let blocks = signatures.len();
     let left = reference(low, group[0], blocks + first + 1);
     let right = reference(size - low, group[low], blocks + first + low);
-    set_node(links, blocks, first, cut.position, left, right);
-    build(signatures, links, &mut group[..low], width, first + 1);
-    build(signatures, links, &mut group[low..], width, first + low);
+    set_node(nodes, first, cut.position, left, right);
+    build(signatures, nodes, &mut group[..low], width, first + 1);
+    build(signatures, nodes, &mut group[low..], width, first + low);
 }

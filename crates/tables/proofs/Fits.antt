@@ -1,11 +1,10 @@
 -- Question 4's test is the fact that the tables fit, both ways: each part of the test is a comparison, and its answer is the fact.
--- A block's row stands inside links that fit.
 -- Assumes nothing.
-use Prim.Native.Nat.{ℕ, _≤_, _<_}
+use Prim.Native.Nat.{ℕ, _+_, _-_, _≤_, _<_}
 use native.Mathlib.Omega.{arith}
-use mathlib.Core.Path.{_≡_, refl, sym, _∙_}
+use mathlib.Core.Path.{_≡_, refl, sym, _∙_, ap}
 use mathlib.Core.Logic.{_↔_}
-use mathlib.Core.Bool.{Bool, true, _&&_}
+use mathlib.Core.Bool.{Bool, true, false, _&&_}
 use mathlib.Core.List.{List}
 use lib.Dec.{eqb}
 use lib.ListN.{length}
@@ -13,8 +12,22 @@ use borrow.Author.Tests.{eq-eqb, le-leb, eqb-true}
 use Rattle.model.specs.Limits.{widest, mostBlocks}
 use Rattle.model.specs.Tables.{linksOf, widthOf, toldBlocks, filedAt}
 use Rattle.model.specs.Sound.{FitsAt}
-use Rattle.model.specs.Questions.{blocksFit, widthFits, asksTables, tablesFit}
-use Rattle.model.proofs.Asking.{both, in-range}
+use Rattle.model.specs.Questions.{ask, blocksFit, widthFits, asksTables, tablesFit}
+use Rattle.model.specs.Packed.{rowsOf, unpacked, Packs}
+use Rattle.model.specs.PackedPromises.{packedFit}
+use Rattle.model.proofs.Asking.{true-false, both, in-range}
+use Rattle.model.proofs.Packing.{row-word, long-packs}
+use Rattle.tables.specs.Fits.{FitsPacked}
+
+-- what a yes to the lengths of packed tables says
+pub packs-of : (B n m : ℕ) → (blocksFit B && eqb n (rowsOf B) && eqb m (B - 1)) ≡ true → (1 ≤ B) × (B ≤ mostBlocks) × (n ≡ rowsOf B) × (m + 1 ≡ B)
+packs-of B n m e =
+    let q = both {t = blocksFit B && eqb n (rowsOf B)} e in
+    let p = both {t = blocksFit B} (q .0) in
+    let r = in-range B mostBlocks (p .0) in
+    let z = eqb-true m (B - 1) (q .1) in
+    let y = r .0 in
+    (r .0, r .1, eqb-true n (rowsOf B) (p .1), omega arith)
 
 -- what a yes to the lengths says
 pub lengths-of : (B n : ℕ) → (blocksFit B && eqb n (linksOf B)) ≡ true → (1 ≤ B) × (B ≤ mostBlocks) × (n ≡ linksOf B)
@@ -29,10 +42,6 @@ lengths-fit sigs links h k e = rw (le-leb 1 (length sigs) h, le-leb (length sigs
 
 pub width-of : (F : ℕ) → widthFits F ≡ true → (1 ≤ F) × (F ≤ widest)
 width-of F e = in-range F widest e
-
--- a block's row stands inside the links
-pub row-inside : (B b n : ℕ) → 1 ≤ b → b ≤ B → n ≡ linksOf B → filedAt b < n
-row-inside B b n g h e = omega arith
 
 module _ (sigs links : List ℕ) where
   fits-true : tablesFit (asksTables sigs links) ≡ true → FitsAt (length sigs) (widthOf links) sigs links
@@ -69,3 +78,45 @@ module _ (sigs links : List ℕ) where
   -- an answer that is the test's says the fact
   pub fit-said : {r : Bool} → r ≡ tablesFit (asksTables sigs links) → (r ≡ tablesFit (asksTables sigs links)) × (r ≡ true → FitsAt (length sigs) (widthOf links) sigs links)
   fit-said e = (e, λ t. fits-true (sym e ∙ t))
+
+-- Question 4 of packed tables comes first: a no to the lengths p or to the tables t gives 4, a yes to both leaves the later questions.
+pub packed-no : (p t : Bool) (later : ℕ) → (p && t) ≡ false → (t ≡ false → later ≡ 4) → ask 4 p later ≡ 4
+unfolding ask
+packed-no true t later e h = h e
+packed-no false t later e h = refl
+
+pub packed-yes : (p t : Bool) (later : ℕ) → (p && t) ≡ true → ask 4 p later ≡ later
+unfolding ask
+packed-yes true t later e = refl
+packed-yes false t later e = true-false e refl
+
+-- the same of packed tables
+module _ (sigs links nodes : List ℕ) where
+  abbrev U : List ℕ
+  U = unpacked links nodes
+
+  pub packs : packedFit sigs links nodes ≡ true → Packs (length sigs) links nodes
+  packs e = let q = packs-of (length sigs) (length links) (length nodes) e in record { rows-long = q .2; nodes-long = q .3 }
+
+  pub packs-lengths : packedFit sigs links nodes ≡ true → asksTables sigs (unpacked links nodes) .lengths ≡ true
+  packs-lengths e = let q = packs-of (length sigs) (length links) (length nodes) e in lengths-fit sigs U (q .0) (q .1) (long-packs (length sigs) links nodes (packs e))
+
+  pub packs-words : packedFit sigs links nodes ≡ true → tablesFit (asksTables sigs (unpacked links nodes)) ≡ (widthFits (widthOf links) && eqb (toldBlocks links) (length sigs))
+  packs-words e =
+      let q = packs-of (length sigs) (length links) (length nodes) e in
+      let b = q .0 in
+      let l = q .2 in
+      rw (packs-lengths e, row-word links nodes 0 (omega arith), row-word links nodes 1 (omega arith))
+
+  abbrev Said : Bool → Type 0
+  Said r = (r ≡ (packedFit sigs links nodes && tablesFit (asksTables sigs U))) × (r ≡ true → FitsPacked sigs links nodes)
+
+  said : {r : Bool} → r ≡ (packedFit sigs links nodes && tablesFit (asksTables sigs U)) → Said r
+  said e = (e, λ t. let q = both {t = packedFit sigs links nodes} (sym e ∙ t) in record { packs = packs (q .0); fits = fits-true sigs U (q .1) })
+
+  pub said-lengths : packedFit sigs links nodes ≡ false → Said false
+  said-lengths e = said (ap (λ (t : Bool). t && tablesFit (asksTables sigs U)) (sym e))
+
+  module _ (e : packedFit sigs links nodes ≡ true) where
+    pub said-words : {r : Bool} → r ≡ (widthFits (widthOf links) && eqb (toldBlocks links) (length sigs)) → Said r
+    said-words h = said (h ∙ sym (packs-words e) ∙ ap (λ (t : Bool). t && tablesFit (asksTables sigs U)) (sym e))

@@ -10,9 +10,14 @@ pub mod Links
 pub mod Graft
 pub mod After
 pub mod Walks
+pub mod Edges
+pub mod Addressed
 pub mod Entries
 pub mod Distinct
 pub mod Unique
 pub mod Holders
 pub mod Stored
 pub mod Spelled
+pub mod Freeing
+pub mod Stays
+pub mod Either

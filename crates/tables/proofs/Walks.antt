@@ -9,19 +9,12 @@ use mathlib.Core.List.{List, [], _∷_}
 use borrow.Author.Tests.{le-leb, lt-leb}
 use Rattle.model.specs.Signature.{bitAt}
 use Rattle.model.specs.Tree.{Edge, edge}
-use Rattle.model.specs.Tables.{word, rootAt, rootOf, sideAt, positionOf}
+use Rattle.model.specs.Tables.{word, linksOf, rootAt, rootOf, sideAt, positionOf}
 use Rattle.model.specs.Sound.{Shape, tip, fork, Rooted, none, some, Holds, HoldsRoot, Placed, PlacedRoot, SoundAt}
 use Rattle.model.specs.File.{edgeAt, spotFrom, spotOf}
 use Rattle.model.specs.Withdraw.{parentFrom, parentOf}
 use Rattle.model.proofs.Bits.{bit-cases}
-use Rattle.tables.specs.Walk.{NodeFits, EdgeOf, WalkFits, Parent, Ends}
-
--- the edge: an unfit node, and a fit one
-pub no-edge : {B F : ℕ} {links : List ℕ} {s i : ℕ} → (NodeFits B F links i → ⊥) → EdgeOf B F links s i 2
-no-edge n = record { fit = λ f. absurd (n f); node = λ h. absurd (omega arith); bit = λ h. absurd (omega arith) }
-
-pub an-edge : {B F : ℕ} {links : List ℕ} {s i e : ℕ} → NodeFits B F links i → e ≡ bitAt F s (positionOf B links i) → e ≤ 1 → EdgeOf B F links s i e
-an-edge f x h = record { fit = λ _. h; node = λ _. f; bit = λ _. x }
+use Rattle.tables.specs.Walk.{NodeFits, EdgeOf, WalkFits, Parent, Ends, HeldBy}
 
 module _ (B F : ℕ) (links : List ℕ) (s : ℕ) where
   spot-none : (n at : ℕ) → n ≤ 0 → spotFrom B F links s n at ≡ at
@@ -140,3 +133,13 @@ sound-fits {B} {F} {sigs} {links} S s = go (S .tree) (S .holds) (S .placed)
     go : (t : Rooted) → HoldsRoot B links (rootOf links) t → PlacedRoot F sigs links t → WalkFits B F links s F rootAt
     go none q pl = at-none F q
     go (some t) q pl = walk-fits B F links s sigs [] t F rootAt q pl
+
+-- an unfit walk holds nothing
+pub nothing-held : (B : ℕ) (links : List ℕ) (r p : ℕ) → HeldBy B links 0 0 r p
+nothing-held B links r p = record { here = λ n. absurd (n refl); node = λ n. absurd (n refl) }
+
+pub lost-at : (B F : ℕ) (links : List ℕ) (s link above r p : ℕ) → link ≡ 0 → above ≡ 0 → 0 < linksOf B → Ends B F links s 0 0
+    → Ends B F links s link above × (((link < linksOf B) × (above < linksOf B)) × HeldBy B links link above r p)
+lost-at B F links s link above r p e f h E =
+    let T : ℕ → ℕ → Type 0 = λ a b. Ends B F links s a b × (((a < linksOf B) × (b < linksOf B)) × HeldBy B links a b r p) in
+    subst (λ (a : ℕ). T a above) (sym e) (subst (λ (b : ℕ). T 0 b) (sym f) (E, ((h, h), nothing-held B links r p)))

@@ -1,11 +1,12 @@
 -- What the walk by a signature's bits finds, on any tables: on fit ones the reference that the definitions walk to, and its parent.
 -- Assumes nothing.
-use Prim.Native.Nat.{ℕ, zero, suc, _-_, _≤_, _<_}
+use Prim.Native.Nat.{ℕ, zero, suc, _+_, _-_, _≤_, _<_}
 use mathlib.Core.Path.{_≡_}
 use mathlib.Core.Logic.{_≢_, _⊎_}
 use mathlib.Core.List.{List}
 use Rattle.model.specs.Signature.{bitAt}
 use Rattle.model.specs.Tables.{word, rootAt, rootOf, positionOf}
+use Rattle.model.specs.Packed.{positionIn}
 use Rattle.model.specs.File.{edgeAt, spotOf}
 use Rattle.model.specs.Withdraw.{parentOf}
 
@@ -18,6 +19,12 @@ pub record EdgeOf (B F : ℕ) (links : List ℕ) (s i e : ℕ) : Type 0 where
   pub fit : NodeFits B F links i → e ≤ 1
   pub node : e ≤ 1 → NodeFits B F links i
   pub bit : e ≤ 1 → e ≡ bitAt F s (positionOf B links i)
+
+-- e is the side that s takes of a node with this word, 0 or 1; more where its position is none of 1 to F
+pub record EdgeIn (F w s e : ℕ) : Type 0 where
+  pub fit : (1 ≤ positionIn w) × (positionIn w ≤ F) → e ≤ 1
+  pub node : e ≤ 1 → (1 ≤ positionIn w) × (positionIn w ≤ F)
+  pub bit : e ≤ 1 → e ≡ bitAt F s (positionIn w)
 
 -- every node on the walk by s from address at is fit; n bounds the nodes passed
 abbrev pub WalkFits : ℕ → ℕ → List ℕ → ℕ → ℕ → ℕ → Type 0
@@ -38,3 +45,8 @@ pub record Ends (B F : ℕ) (links : List ℕ) (s link above : ℕ) : Type 0 whe
   pub fit : WalkFits B F links s F rootAt → link ≢ 0
   pub spot : link ≢ 0 → link ≡ spotOf B F links s
   pub top : link ≢ 0 → word links link ≤ B → ((rootOf links ≤ B) × (above ≡ 0)) ⊎ Parent B F links s above
+
+-- what stands at these addresses: the reference reached, and the parent's node
+pub record HeldBy (B : ℕ) (links : List ℕ) (link above reference parent : ℕ) : Type 0 where
+  pub here : link ≢ 0 → reference ≡ word links link
+  pub node : above ≢ 0 → (word links above ≡ B + parent) × (1 ≤ parent) × (parent < B)

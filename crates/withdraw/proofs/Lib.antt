@@ -8,3 +8,4 @@ pub mod Freed
 pub mod Withdrawing
 pub mod Raising
 pub mod Withdrawn
+pub mod Packed

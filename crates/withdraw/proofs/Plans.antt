@@ -1,6 +1,6 @@
 -- Each case of a plan makes the definition's stores: the tests that led there are the definition's tests.
 -- Assumes nothing.
-use Prim.Native.Nat.{ℕ, _-_, _≤_, _<_}
+use Prim.Native.Nat.{ℕ, _+_, _-_, _≤_, _<_}
 use native.Mathlib.Omega.{arith}
 use mathlib.Core.Path.{_≡_, refl, sym, _∙_, ap}
 use mathlib.Core.Logic.{_⊎_, inl, inr, _≢_}
@@ -32,6 +32,10 @@ module _ (B F : ℕ) (L : List ℕ) (b s above i x : ℕ) (e : i ≡ word L abov
 
   pub raises : (r : ℕ) → x ≤ 1 → r ≡ sideOf B L i (1 - x) → PlansRaise B F L b s above (Raise above i r)
   raises r h y l f = rw (← e, ← E .bit h, y) (record { is = refl; does = refl })
+
+-- the node of a reference
+pub node-at : (x B i : ℕ) → x ≡ B + i → i ≡ x - B
+node-at x B i e = omega (arith, e)
 
 -- b is the head of its chain, and x the block after it
 module _ (B F : ℕ) (L : List ℕ) (b s link x : ℕ) (e : x ≡ nextOf L b) where

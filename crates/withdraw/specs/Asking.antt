@@ -5,6 +5,7 @@ use mathlib.Core.Logic.{_≢_}
 use mathlib.Core.List.{List}
 use lib.ListN.{length}
 use Rattle.model.specs.Tables.{widthOf, filedOf}
+use Rattle.model.specs.Packed.{unpacked, Packs}
 use Rattle.model.specs.Sound.{FitsAt}
 use Rattle.model.specs.Withdraw.{withdrawSignatures, withdrawLinks}
 use Rattle.model.specs.Promises.{Changes}
@@ -19,3 +20,8 @@ pub record Passed (sigs links : List ℕ) (b : ℕ) : Type 0 where
 -- the promise where the number of the first no is 0
 abbrev pub Withdraws : List ℕ → List ℕ → ℕ → ℕ → List ℕ → List ℕ → Type 0
 Withdraws sigs links b = Changes 0 sigs links (withdrawSignatures sigs b) (withdrawLinks sigs links b)
+
+-- the same of packed tables
+pub record PassedPacked (sigs links nodes : List ℕ) (b : ℕ) : Type 0 where
+  pub packs : Packs (length sigs) links nodes
+  pub passed : Passed sigs (unpacked links nodes) b

@@ -1,12 +1,12 @@
 -- A withdrawal's plan: when its stores stay inside the slices, what they are, and when they are the definition's.
 -- Assumes nothing.
-use Prim.Native.Nat.{ℕ, _-_, _≤_, _<_}
+use Prim.Native.Nat.{ℕ, _-_, _^_, _≤_, _<_}
 use mathlib.Core.Path.{_≡_}
 use mathlib.Core.Logic.{_⊎_}
 use mathlib.Core.Bool.{Bool, true, false}
 use mathlib.Core.List.{List, [], _∷_, List·Memᴰ}
 use lib.ListN.{length}
-use Rattle.model.specs.Tables.{word, linksOf, widthOf, rootOf, countOf, signatureOf}
+use Rattle.model.specs.Tables.{word, linksOf, widthOf, rootOf, freeOf, countOf, signatureOf}
 use Rattle.model.specs.Sound.{Chain, Sound}
 use Rattle.model.specs.Stores.{Store, _↤_}
 use Rattle.model.specs.File.{spotOf}
@@ -15,11 +15,11 @@ use Rattle.tables.specs.Walk.{NodeFits, Parent}
 use Rattle.withdraw.specs.declared.plan.Plan.{Plan}
 use Rattle.withdraw.specs.declared.plan.Plan.the-variants.{Unfit, Relink, Raise}
 
--- its addresses stand inside the links, and the count does not fall below 0
+-- its addresses stand inside the links, the count does not fall below 0, and what is stored fits a node
 abbrev pub PlanFits : ℕ → List ℕ → Plan → Type 0
 PlanFits B links Unfit = Unit {0}
-PlanFits B links (Relink at value) = (1 ≤ countOf links) × (at < linksOf B)
-PlanFits B links (Raise above node sibling) = (1 ≤ countOf links) × (above < linksOf B) × (1 ≤ node) × (node < B)
+PlanFits B links (Relink at value) = (1 ≤ countOf links) × (at < linksOf B) × (value < 2 ^ 17)
+PlanFits B links (Raise above node sibling) = (1 ≤ countOf links) × (above < linksOf B) × (1 ≤ node) × (node < B) × (sibling < 2 ^ 17) × (freeOf links < 2 ^ 17)
 
 -- there is a plan
 abbrev pub isPlan : Plan → Bool

@@ -12,13 +12,13 @@ use Rattle.runner.proofs.batch.Statement.{statement}
 use Rattle.runner.proofs.batch.Tie as tie
 
 abbrev Inv-loop : tie.InvT-loop
-Inv-loop signatures₀ links₀ scratch₀ marks₀ output₀ bytes from end text₀ most at₀ used₀ signatures links scratch marks output text at used =
-    Batched bytes from end (lent signatures₀ links₀ scratch₀ marks₀ output₀) (lent signatures links scratch marks output) at used text
+Inv-loop signatures₀ links₀ nodes₀ scratch₀ marks₀ output₀ bytes from end text₀ most at₀ used₀ signatures links nodes scratch marks output text at used =
+    Batched bytes from end (lent signatures₀ links₀ nodes₀ scratch₀ marks₀ output₀) (lent signatures links nodes scratch marks output) at used text
     × (at ≡ from → used ≡ 0)
-    × (length text ≡ length text₀) × (length signatures ≡ length signatures₀) × (length links ≡ length links₀) × (length scratch ≡ length scratch₀) × (length marks ≡ length marks₀) × (length output ≡ length output₀)
+    × (length text ≡ length text₀) × (length signatures ≡ length signatures₀) × (length links ≡ length links₀) × (length nodes ≡ length nodes₀) × (length scratch ≡ length scratch₀) × (length marks ≡ length marks₀) × (length output ≡ length output₀)
 
 abbrev μ-loop : tie.MeasureT-loop
-μ-loop signatures₀ links₀ scratch₀ marks₀ output₀ bytes from end text₀ most at₀ used₀ signatures links scratch marks output text at used = end - at
+μ-loop signatures₀ links₀ nodes₀ scratch₀ marks₀ output₀ bytes from end text₀ most at₀ used₀ signatures links nodes scratch marks output text at used = end - at
 
 mul-most : tie.Need-mul-most Inv-loop μ-loop
 mul-most c = search needs
@@ -28,8 +28,8 @@ add-most c = search needs
 
 loop-holds : tie.Need-loop-holds Inv-loop μ-loop
 loop-holds c =
-    let entry = c .before .before .before .before .before .before .before in
-    (batch-none _ _ _ _ _ (entry .pre .0), (λ e. refl), refl, refl, refl, refl, refl, refl)
+    let entry = c .before .before .before .before .before .before .before .before in
+    (batch-none _ _ _ _ _ (entry .pre .0), (λ e. refl), refl, refl, refl, refl, refl, refl, refl)
 
 sub-loop : tie.Need-sub-loop Inv-loop μ-loop
 sub-loop c = search needs
@@ -55,11 +55,14 @@ same-length-5 c = search needs
 same-length-6 : tie.Need-same-length-6 Inv-loop μ-loop
 same-length-6 c = search needs
 
+same-length-7 : tie.Need-same-length-7 Inv-loop μ-loop
+same-length-7 c = search needs
+
 returns : tie.Need-returns Inv-loop μ-loop
 returns c =
     let at-loop = c .before .before in
     let inv = at-loop .loop .inv in
-    let entry = at-loop .before .before .before .before .before .before .before .before in
+    let entry = c .before .before .before .before .before .before .before .before .before .before .before in
     (inv .0, λ h. not-none _ _ _ _ _ _ (inv .0 .whole) (inv .1) (c .if1 .taken) (omega (arith, entry .pre .2, inv .2)))
 
 add-serve-one : tie.Need-add-serve-one Inv-loop μ-loop
@@ -85,15 +88,12 @@ loop-less c = search needs
 
 loop-again : tie.Need-loop-again Inv-loop μ-loop
 loop-again c =
-    let at-serve-one = c .before .before .before .before .before .before .before .before .before .before .before .before in
-    let at-if1 = at-serve-one .before .before .before .before .before .before .before .before in
-    let at-loop-test = at-if1 .before in
-    let at-loop = at-loop-test .before in
-    let entry = at-loop .before .before .before .before .before .before .before .before in
-    (batch-more _ _ _ _ _ _ _ _ _ _ _ _ (at-loop .loop .inv .0) (at-serve-one .serve-one .ensures) (a-slip (entry .args .bytes .now) (at-loop .loop .at)) (omega (arith, at-loop .loop .inv .0 .inside, at-loop-test .loop-test .taken)) (omega (arith, at-serve-one .serve-one .ensures .room, at-if1 .if1 .left, at-loop .loop .inv, entry .pre .2)), (λ e. omega (arith, e, at-loop .loop .inv .0 .whole)), search needs, search needs, search needs, search needs, search needs, search needs)
-
-same-length-7 : tie.Need-same-length-7 Inv-loop μ-loop
-same-length-7 c = search needs
+    let at-serve-one = c .before .before .before .before .before .before .before .before .before .before .before .before .before .before in
+    let at-if1 = c .before .before .before .before .before .before .before .before .before .before .before .before .before .before .before .before .before .before .before .before .before .before .before in
+    let at-loop-test = c .before .before .before .before .before .before .before .before .before .before .before .before .before .before .before .before .before .before .before .before .before .before .before .before in
+    let at-loop = c .before .before .before .before .before .before .before .before .before .before .before .before .before .before .before .before .before .before .before .before .before .before .before .before .before in
+    let entry = c .before .before .before .before .before .before .before .before .before .before .before .before .before .before .before .before .before .before .before .before .before .before .before .before .before .before .before .before .before .before .before .before .before .before in
+    (batch-more _ _ _ _ _ _ _ _ _ _ _ _ (at-loop .loop .inv .0) (at-serve-one .serve-one .ensures) (a-slip (entry .args .bytes .now) (at-loop .loop .at)) (omega (arith, at-loop .loop .inv .0 .inside, at-loop-test .loop-test .taken)) (omega (arith, at-serve-one .serve-one .ensures .room, at-if1 .if1 .left, at-loop .loop .inv, entry .pre .2)), (λ e. omega (arith, e, at-loop .loop .inv .0 .whole)), search needs, search needs, search needs, search needs, search needs, search needs, search needs)
 
 same-length-8 : tie.Need-same-length-8 Inv-loop μ-loop
 same-length-8 c = search needs
@@ -109,6 +109,12 @@ same-length-11 c = search needs
 
 same-length-12 : tie.Need-same-length-12 Inv-loop μ-loop
 same-length-12 c = search needs
+
+same-length-13 : tie.Need-same-length-13 Inv-loop μ-loop
+same-length-13 c = search needs
+
+same-length-14 : tie.Need-same-length-14 Inv-loop μ-loop
+same-length-14 c = search needs
 
 returns-2 : tie.Need-returns-2 Inv-loop μ-loop
 returns-2 c =
@@ -132,6 +138,7 @@ batch-spec =
     same-length-4
     same-length-5
     same-length-6
+    same-length-7
     returns
     add-serve-one
     sub-serve-one
@@ -141,10 +148,11 @@ batch-spec =
     add-at
     loop-less
     loop-again
-    same-length-7
     same-length-8
     same-length-9
     same-length-10
     same-length-11
     same-length-12
+    same-length-13
+    same-length-14
     returns-2)

@@ -11,15 +11,15 @@ use Rattle.runner.proofs.drain.Statement.{statement}
 use Rattle.runner.proofs.drain.Tie as tie
 
 abbrev Inv-loop : tie.InvT-loop
-Inv-loop signatures₀ links₀ scratch₀ marks₀ output₀ bytes end text₀ at₀ signatures links scratch marks output text at =
-    Going bytes end (lent signatures₀ links₀ scratch₀ marks₀ output₀) (lent signatures links scratch marks output) at
-    × (length text ≡ length text₀) × (length signatures ≡ length signatures₀) × (length links ≡ length links₀) × (length scratch ≡ length scratch₀) × (length marks ≡ length marks₀) × (length output ≡ length output₀)
+Inv-loop signatures₀ links₀ nodes₀ scratch₀ marks₀ output₀ bytes end text₀ at₀ signatures links nodes scratch marks output text at =
+    Going bytes end (lent signatures₀ links₀ nodes₀ scratch₀ marks₀ output₀) (lent signatures links nodes scratch marks output) at
+    × (length text ≡ length text₀) × (length signatures ≡ length signatures₀) × (length links ≡ length links₀) × (length nodes ≡ length nodes₀) × (length scratch ≡ length scratch₀) × (length marks ≡ length marks₀) × (length output ≡ length output₀)
 
 abbrev μ-loop : tie.MeasureT-loop
-μ-loop signatures₀ links₀ scratch₀ marks₀ output₀ bytes end text₀ at₀ signatures links scratch marks output text at = end - at
+μ-loop signatures₀ links₀ nodes₀ scratch₀ marks₀ output₀ bytes end text₀ at₀ signatures links nodes scratch marks output text at = end - at
 
 loop-holds : tie.Need-loop-holds Inv-loop μ-loop
-loop-holds c = (going-none _ _ _, refl, refl, refl, refl, refl, refl)
+loop-holds c = (going-none _ _ _, refl, refl, refl, refl, refl, refl, refl)
 
 sub-loop : tie.Need-sub-loop Inv-loop μ-loop
 sub-loop c = search needs
@@ -32,15 +32,15 @@ flush-requires c κs = search needs
 
 loop-less : tie.Need-loop-less Inv-loop μ-loop
 loop-less c =
-    let at-batch = c .before .before .before .before .before .before .before .before .before .before .before .before .before .before in
-    let at-loop-test = at-batch .before .before .before .before .before .before .before in
+    let at-batch = c .before .before .before .before .before .before .before .before .before .before .before .before .before .before .before .before in
+    let at-loop-test = c .before .before .before .before .before .before .before .before .before .before .before .before .before .before .before .before .before .before .before .before .before .before .before .before in
     omega (arith, at-batch .batch .ensures .1 (at-loop-test .loop-test .taken), at-batch .batch .ensures .0 .inside)
 
 loop-again : tie.Need-loop-again Inv-loop μ-loop
 loop-again c =
-    let at-batch = c .before .before .before .before .before .before .before .before .before .before .before .before .before .before in
-    let at-loop = at-batch .before .before .before .before .before .before .before .before in
-    (going-more _ _ _ _ _ _ _ _ _ (at-loop .loop .inv .0) (at-batch .batch .ensures .0), search needs, search needs, search needs, search needs, search needs, search needs)
+    let at-batch = c .before .before .before .before .before .before .before .before .before .before .before .before .before .before .before .before in
+    let at-loop = c .before .before .before .before .before .before .before .before .before .before .before .before .before .before .before .before .before .before .before .before .before .before .before .before .before in
+    (going-more _ _ _ _ _ _ _ _ _ (at-loop .loop .inv .0) (at-batch .batch .ensures .0), search needs, search needs, search needs, search needs, search needs, search needs, search needs)
 
 same-length : tie.Need-same-length Inv-loop μ-loop
 same-length c = search needs
@@ -59,6 +59,9 @@ same-length-5 c = search needs
 
 same-length-6 : tie.Need-same-length-6 Inv-loop μ-loop
 same-length-6 c = search needs
+
+same-length-7 : tie.Need-same-length-7 Inv-loop μ-loop
+same-length-7 c = search needs
 
 returns : tie.Need-returns Inv-loop μ-loop
 returns c = going-done _ _ _ _ _ (c .before .loop .inv .0) (c .loop-test .left)
@@ -81,4 +84,5 @@ drain-spec =
     same-length-4
     same-length-5
     same-length-6
+    same-length-7
     returns)

@@ -41,11 +41,14 @@ same-length-5 c = search needs
 same-length-6 : tie.Need-same-length-6
 same-length-6 c = search needs
 
+same-length-7 : tie.Need-same-length-7
+same-length-7 c = search needs
+
 returns-2 : tie.Need-returns-2
 returns-2 c =
-    let at-serve-one = c .before .before .before .before .before .before .before .before .before .before .before .before .before .before in
-    let entry = at-serve-one .before .before .before .before .before .before .before .before .before .before .before .before .before .before .before .before in
-    ended-one _ _ _ _ _ _ _ _ (at-serve-one .before .before .before .before .before .before .before .before .if1 .left) (at-serve-one .serve-one .ensures) (from-start (entry .args .bytes .now) (entry .args .kept))
+    let at-serve-one = c .before .before .before .before .before .before .before .before .before .before .before .before .before .before .before .before in
+    let entry = c .before .before .before .before .before .before .before .before .before .before .before .before .before .before .before .before .before .before .before .before .before .before .before .before .before .before .before .before .before .before .before .before .before .before in
+    ended-one _ _ _ _ _ _ _ _ (at-serve-one .before .before .before .before .before .before .before .before .before .if1 .left) (at-serve-one .serve-one .ensures) (from-start (entry .args .bytes .now) (entry .args .kept))
 
 pub last-spec : {M : Type 1} → statement M
 last-spec =
@@ -63,4 +66,5 @@ last-spec =
     same-length-4
     same-length-5
     same-length-6
+    same-length-7
     returns-2)

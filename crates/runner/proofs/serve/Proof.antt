@@ -38,6 +38,9 @@ same-length-6 c = search needs
 same-length-7 : tie.Need-same-length-7
 same-length-7 c = search needs
 
+same-length-8 : tie.Need-same-length-8
+same-length-8 c = search needs
+
 returns-3 : tie.Need-returns-3
 returns-3 c = search needs
 
@@ -56,4 +59,5 @@ serve-spec =
     same-length-5
     same-length-6
     same-length-7
+    same-length-8
     returns-3)

@@ -12,15 +12,15 @@ use Rattle.runner.proofs.serve_all.Statement.{statement}
 use Rattle.runner.proofs.serve_all.Tie as tie
 
 abbrev Inv-loop : tie.InvT-loop
-Inv-loop signatures₀ links₀ scratch₀ marks₀ output₀ bytes₀ text₀ turns₀ kept₀ signatures links scratch marks output bytes text turns kept =
-    Ran (lent signatures₀ links₀ scratch₀ marks₀ output₀) (lent signatures links scratch marks output)
-    × (kept ≤ length bytes) × (length bytes ≡ length bytes₀) × (length text ≡ length text₀) × (length signatures ≡ length signatures₀) × (length links ≡ length links₀) × (length scratch ≡ length scratch₀) × (length marks ≡ length marks₀) × (length output ≡ length output₀)
+Inv-loop signatures₀ links₀ nodes₀ scratch₀ marks₀ output₀ bytes₀ text₀ turns₀ kept₀ signatures links nodes scratch marks output bytes text turns kept =
+    Ran (lent signatures₀ links₀ nodes₀ scratch₀ marks₀ output₀) (lent signatures links nodes scratch marks output)
+    × (kept ≤ length bytes) × (length bytes ≡ length bytes₀) × (length text ≡ length text₀) × (length signatures ≡ length signatures₀) × (length links ≡ length links₀) × (length nodes ≡ length nodes₀) × (length scratch ≡ length scratch₀) × (length marks ≡ length marks₀) × (length output ≡ length output₀)
 
 abbrev μ-loop : tie.MeasureT-loop
-μ-loop signatures₀ links₀ scratch₀ marks₀ output₀ bytes₀ text₀ turns₀ kept₀ signatures links scratch marks output bytes text turns kept = turns
+μ-loop signatures₀ links₀ nodes₀ scratch₀ marks₀ output₀ bytes₀ text₀ turns₀ kept₀ signatures links nodes scratch marks output bytes text turns kept = turns
 
 loop-holds : tie.Need-loop-holds Inv-loop μ-loop
-loop-holds c = (ran-none _, search needs, refl, refl, refl, refl, refl, refl, refl)
+loop-holds c = (ran-none _, search needs, refl, refl, refl, refl, refl, refl, refl, refl)
 
 fill-requires : tie.Need-fill-requires Inv-loop μ-loop
 fill-requires c κs = search needs
@@ -49,10 +49,13 @@ same-length-6 c = search needs
 same-length-7 : tie.Need-same-length-7 Inv-loop μ-loop
 same-length-7 c = search needs
 
+same-length-8 : tie.Need-same-length-8 Inv-loop μ-loop
+same-length-8 c = search needs
+
 returns : tie.Need-returns Inv-loop μ-loop
 returns c =
-    let at-last = c .before .before .before .before .before .before .before .before .before .before .before .before in
-    let at-loop = at-last .before .before .before .before .before .before .before .before .before .before .before .before .before .before in
+    let at-last = c .before .before .before .before .before .before .before .before .before .before .before .before .before .before in
+    let at-loop = c .before .before .before .before .before .before .before .before .before .before .before .before .before .before .before .before .before .before .before .before .before .before .before .before .before .before .before .before .before in
     ran-more _ _ _ _ _ (at-loop .loop .inv .0) (at-last .last .ensures .turns)
 
 drain-requires : tie.Need-drain-requires Inv-loop μ-loop
@@ -70,13 +73,10 @@ loop-less c = search needs
 loop-again : tie.Need-loop-again Inv-loop μ-loop
 loop-again c =
     let at-shift = c .before .before in
-    let at-drain = at-shift .before .before .before .before .before .before .before .before .before .before .before .before .before .before in
-    let at-fill = at-drain .before .before .before .before .before .before .before .before .before .before .before in
-    let at-loop = at-drain .before .before .before .before .before .before .before .before .before .before .before .before .before .before in
-    (ran-more _ _ _ _ _ (at-loop .loop .inv .0) (at-drain .drain .ensures .turns), omega (arith, at-shift .shift .ensures .0, at-drain .drain .ensures .whole, at-fill .fill .ensures .1), search needs, search needs, search needs, search needs, search needs, search needs, search needs)
-
-same-length-8 : tie.Need-same-length-8 Inv-loop μ-loop
-same-length-8 c = search needs
+    let at-drain = c .before .before .before .before .before .before .before .before .before .before .before .before .before .before .before .before .before .before in
+    let at-fill = c .before .before .before .before .before .before .before .before .before .before .before .before .before .before .before .before .before .before .before .before .before .before .before .before .before .before .before .before .before .before in
+    let at-loop = c .before .before .before .before .before .before .before .before .before .before .before .before .before .before .before .before .before .before .before .before .before .before .before .before .before .before .before .before .before .before .before .before .before in
+    (ran-more _ _ _ _ _ (at-loop .loop .inv .0) (at-drain .drain .ensures .turns), omega (arith, at-shift .shift .ensures .0, at-drain .drain .ensures .whole, at-fill .fill .ensures .1), search needs, search needs, search needs, search needs, search needs, search needs, search needs, search needs)
 
 same-length-9 : tie.Need-same-length-9 Inv-loop μ-loop
 same-length-9 c = search needs
@@ -95,6 +95,12 @@ same-length-13 c = search needs
 
 same-length-14 : tie.Need-same-length-14 Inv-loop μ-loop
 same-length-14 c = search needs
+
+same-length-15 : tie.Need-same-length-15 Inv-loop μ-loop
+same-length-15 c = search needs
+
+same-length-16 : tie.Need-same-length-16 Inv-loop μ-loop
+same-length-16 c = search needs
 
 returns-2 : tie.Need-returns-2 Inv-loop μ-loop
 returns-2 c = c .before .loop .inv .0
@@ -115,17 +121,19 @@ serve-all-spec =
     same-length-5
     same-length-6
     same-length-7
+    same-length-8
     returns
     drain-requires
     shift-requires
     sub-turns
     loop-less
     loop-again
-    same-length-8
     same-length-9
     same-length-10
     same-length-11
     same-length-12
     same-length-13
     same-length-14
+    same-length-15
+    same-length-16
     returns-2)

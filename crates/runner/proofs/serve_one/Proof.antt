@@ -33,10 +33,13 @@ same-length-5 c = search needs
 same-length-6 : tie.Need-same-length-6
 same-length-6 c = search needs
 
+same-length-7 : tie.Need-same-length-7
+same-length-7 c = search needs
+
 returns : tie.Need-returns
 returns c =
     let at-line = c .before .before in
-    let at-carry-out = at-line .before .before .before .before .before .before .before .before .before .before .before .before .before .before in
+    let at-carry-out = c .before .before .before .before .before .before .before .before .before .before .before .before .before .before .before .before .before .before in
     record { report = reported (at-carry-out .carry-out .result .answer) (at-carry-out .carry-out .result .found) (at-carry-out .carry-out .result .compares) (at-carry-out .carry-out .result .bits); gives = at-carry-out .carry-out .ensures .0; puts = at-line .line .ensures .0; room = omega (arith, at-line .line .ensures .1, at-carry-out .carry-out .ensures .1) }
 
 pub serve-one-spec : {M : Type 1} → statement M
@@ -52,4 +55,5 @@ serve-one-spec =
     same-length-4
     same-length-5
     same-length-6
+    same-length-7
     returns)

@@ -3,7 +3,9 @@
 use borrow.Author.Needs.{needs}
 use mathlib.Core.Path.{sym, _∙_}
 use native.Mathlib.Omega.{arith}
-use Rattle.search.proofs.Returns.{find-empty, find-unfit, find-list, walk-few, walk-found, used-read, report-same}
+use Rattle.model.specs.Packed.{unpacked}
+use Rattle.model.proofs.Packing.{front-word}
+use Rattle.search.proofs.Returns.{walked-rows, find-empty, find-unfit, find-list, walk-few, walk-found, used-read, report-same}
 use Rattle.search.proofs.find.Statement.{statement}
 use Rattle.search.proofs.find.Tie as tie
 
@@ -12,8 +14,8 @@ clear-marks-requires c κs = search needs
 
 shared-slice-read-root : tie.Need-shared-slice-read-root
 shared-slice-read-root c =
-    let entry = c .before .before .before .before .before .before .before .before .before in
-    omega (arith, entry .pre .0 .long, entry .pre .1 .0)
+    let entry = c .before .before .before .before .before .before .before .before .before .before in
+    omega (arith, entry .pre .0 .packs .rows-long)
 
 no-list-requires : tie.Need-no-list-requires
 no-list-requires c κs = search needs
@@ -22,18 +24,24 @@ same-length : tie.Need-same-length
 same-length c = search needs
 
 returns : tie.Need-returns
-returns c = find-empty _ _ _ _ _ _ (c .before .before .before .before .before .clear-marks .ensures) _ (c .no-list .ensures) (c .before .if1 .taken)
+returns c =
+    let at-if1 = c .before in
+    let at-clear-marks = at-if1 .before .before .before .before in
+    let entry = at-clear-marks .before .before .before .before .before .before .before in
+    find-empty _ _ _ _ _ _ (at-clear-marks .clear-marks .ensures) _ (c .no-list .ensures) (front-word _ _ _ (entry .pre .0 .packs) 2 (omega arith) ∙ at-if1 .if1 .taken)
 
 shared-slice-read-walk-tree : tie.Need-shared-slice-read-walk-tree
 shared-slice-read-walk-tree c =
-    let entry = c .before .before .before .before .before .before .before .before .before .before .before .before in
-    omega (arith, entry .pre .0 .long, entry .pre .1 .0)
+    let entry = c .before .before .before .before .before .before .before .before .before .before .before .before .before in
+    omega (arith, entry .pre .0 .packs .rows-long)
 
 lend-requires : tie.Need-lend-requires
 lend-requires c κs = search needs
 
 walk-tree-requires : tie.Need-walk-tree-requires
-walk-tree-requires c κs = search needs
+walk-tree-requires c κs =
+    let entry = c .before .before .before .before .before .before .before .before .before .before .before .before .before .before in
+    let p = entry .pre .0 in record { sized = search needs; packs = p .packs }
 
 nodes-in-requires : tie.Need-nodes-in-requires
 nodes-in-requires c κs = search needs
@@ -52,7 +60,8 @@ returns-2 c =
     let at-lend = at-walk-tree .before in
     let at-if1 = at-lend .before .before .before in
     let at-clear-marks = at-if1 .before .before .before .before in
-    find-unfit _ _ _ _ _ _ (at-clear-marks .clear-marks .ensures) _ _ (at-lend .lend .ensures) _ _ (at-walk-tree .walk-tree .ensures) (c .no-list2 .ensures) (at-if1 .if1 .left) (sym (at-nodes-in .nodes-in .ensures) ∙ at-if2 .if2 .taken)
+    let entry = at-clear-marks .before .before .before .before .before .before .before in
+    find-unfit _ _ _ _ _ _ (at-clear-marks .clear-marks .ensures) _ _ (at-lend .lend .ensures) _ _ (walked-rows _ _ _ (entry .pre .0 .packs) _ _ _ _ (at-walk-tree .walk-tree .ensures)) (c .no-list2 .ensures) (λ z. at-if1 .if1 .left (sym (front-word _ _ _ (entry .pre .0 .packs) 2 (omega arith)) ∙ z)) (sym (at-nodes-in .nodes-in .ensures) ∙ at-if2 .if2 .taken)
 
 blocks-in-requires : tie.Need-blocks-in-requires
 blocks-in-requires c κs = search needs
@@ -64,10 +73,10 @@ used-requires c κs =
     let at-walk-tree = at-nodes-in .before .before .before in
     let at-lend = at-walk-tree .before in
     let at-clear-marks = at-lend .before .before .before .before .before .before .before in
-    let entry = at-clear-marks .before .before .before .before .before .before in
+    let entry = at-clear-marks .before .before .before .before .before .before .before in
     let a = entry .args in
-    let f = walk-found (a .signatures .now) (a .links .now) (a .query) (a .marks .now) _ (at-clear-marks .clear-marks .ensures) _ (at-lend .lend .ensures) _ _ (at-walk-tree .walk-tree .ensures) (entry .pre .0 .room) (λ z. at-if2 .if2 .left (at-nodes-in .nodes-in .ensures ∙ z)) in
-    omega (arith, f .0, c .blocks-in .ensures, entry .pre .0 .few)
+    let f = walk-found (a .signatures .now) (unpacked (a .links .now) (a .nodes .now)) (a .query) (a .marks .now) _ (at-clear-marks .clear-marks .ensures) _ (at-lend .lend .ensures) _ _ (walked-rows _ _ _ (entry .pre .0 .packs) _ _ _ _ (at-walk-tree .walk-tree .ensures)) (entry .pre .0 .sized .room) (λ z. at-if2 .if2 .left (at-nodes-in .nodes-in .ensures ∙ z)) in
+    omega (arith, f .0, c .blocks-in .ensures, entry .pre .0 .sized .few)
 
 cast-list-marked : tie.Need-cast-list-marked
 cast-list-marked c = search needs
@@ -81,9 +90,9 @@ list-marked-requires c κs =
     let at-walk-tree = at-nodes-in .before .before .before in
     let at-lend = at-walk-tree .before in
     let at-clear-marks = at-lend .before .before .before .before .before .before .before in
-    let entry = at-clear-marks .before .before .before .before .before .before in
+    let entry = at-clear-marks .before .before .before .before .before .before .before in
     let a = entry .args in
-    let f = walk-found (a .signatures .now) (a .links .now) (a .query) (a .marks .now) _ (at-clear-marks .clear-marks .ensures) _ (at-lend .lend .ensures) _ _ (at-walk-tree .walk-tree .ensures) (entry .pre .0 .room) (λ z. at-if2 .if2 .left (at-nodes-in .nodes-in .ensures ∙ z)) in
+    let f = walk-found (a .signatures .now) (unpacked (a .links .now) (a .nodes .now)) (a .query) (a .marks .now) _ (at-clear-marks .clear-marks .ensures) _ (at-lend .lend .ensures) _ _ (walked-rows _ _ _ (entry .pre .0 .packs) _ _ _ _ (at-walk-tree .walk-tree .ensures)) (entry .pre .0 .sized .room) (λ z. at-if2 .if2 .left (at-nodes-in .nodes-in .ensures ∙ z)) in
     let e = used-read _ _ _ _ (at-used .used .ensures) (at-blocks-in .blocks-in .ensures) in
     (search needs, search needs, omega (arith, e, entry .pre .1 .1), e ∙ f .1)
 
@@ -95,10 +104,10 @@ used-requires-2 c κs =
     let at-walk-tree = c .before .before .before .before .before .before .before .before .before .before .before .before in
     let at-lend = at-walk-tree .before in
     let at-clear-marks = at-lend .before .before .before .before .before .before .before in
-    let entry = at-clear-marks .before .before .before .before .before .before in
+    let entry = at-clear-marks .before .before .before .before .before .before .before in
     let a = entry .args in
-    let f = walk-few (a .signatures .now) (a .links .now) (a .query) (a .marks .now) _ (at-clear-marks .clear-marks .ensures) _ (at-lend .lend .ensures) _ _ (at-walk-tree .walk-tree .ensures) (entry .pre .0 .room) in
-    omega (arith, f .1, c .compares-in .ensures, entry .pre .0 .few)
+    let f = walk-few (a .signatures .now) (unpacked (a .links .now) (a .nodes .now)) (a .query) (a .marks .now) _ (at-clear-marks .clear-marks .ensures) _ (at-lend .lend .ensures) _ _ (walked-rows _ _ _ (entry .pre .0 .packs) _ _ _ _ (at-walk-tree .walk-tree .ensures)) (entry .pre .0 .sized .room) in
+    omega (arith, f .1, c .compares-in .ensures, entry .pre .0 .sized .few)
 
 nodes-in-requires-2 : tie.Need-nodes-in-requires-2
 nodes-in-requires-2 c κs = search needs
@@ -108,10 +117,10 @@ used-requires-3 c κs =
     let at-walk-tree = c .before .before .before .before .before .before .before .before .before .before .before .before .before .before in
     let at-lend = at-walk-tree .before in
     let at-clear-marks = at-lend .before .before .before .before .before .before .before in
-    let entry = at-clear-marks .before .before .before .before .before .before in
+    let entry = at-clear-marks .before .before .before .before .before .before .before in
     let a = entry .args in
-    let f = walk-few (a .signatures .now) (a .links .now) (a .query) (a .marks .now) _ (at-clear-marks .clear-marks .ensures) _ (at-lend .lend .ensures) _ _ (at-walk-tree .walk-tree .ensures) (entry .pre .0 .room) in
-    omega (arith, f .0, c .nodes-in2 .ensures, entry .pre .0 .few)
+    let f = walk-few (a .signatures .now) (unpacked (a .links .now) (a .nodes .now)) (a .query) (a .marks .now) _ (at-clear-marks .clear-marks .ensures) _ (at-lend .lend .ensures) _ _ (walked-rows _ _ _ (entry .pre .0 .packs) _ _ _ _ (at-walk-tree .walk-tree .ensures)) (entry .pre .0 .sized .room) in
+    omega (arith, f .0, c .nodes-in2 .ensures, entry .pre .0 .sized .few)
 
 same-length-3 : tie.Need-same-length-3
 same-length-3 c = search needs
@@ -133,8 +142,9 @@ returns-3 c =
     let at-lend = at-walk-tree .before in
     let at-if1 = at-lend .before .before .before in
     let at-clear-marks = at-if1 .before .before .before .before in
+    let entry = at-clear-marks .before .before .before .before .before .before .before in
     let r = report-same _ _ _ _ _ _ (used-read _ _ _ _ (at-used .used .ensures) (at-blocks-in .blocks-in .ensures)) (used-read _ _ _ _ (at-used2 .used2 .ensures) (at-compares-in .compares-in .ensures)) (used-read _ _ _ _ (c .used3 .ensures) (at-nodes-in2 .nodes-in2 .ensures)) in
-    find-list _ _ _ _ _ _ (at-clear-marks .clear-marks .ensures) _ _ (at-lend .lend .ensures) _ _ (at-walk-tree .walk-tree .ensures) (at-if1 .if1 .left) (λ z. at-if2 .if2 .left (at-nodes-in .nodes-in .ensures ∙ z)) r _ (at-list-marked .list-marked .ensures)
+    find-list _ _ _ _ _ _ (at-clear-marks .clear-marks .ensures) _ _ (at-lend .lend .ensures) _ _ (walked-rows _ _ _ (entry .pre .0 .packs) _ _ _ _ (at-walk-tree .walk-tree .ensures)) (λ z. at-if1 .if1 .left (sym (front-word _ _ _ (entry .pre .0 .packs) 2 (omega arith)) ∙ z)) (λ z. at-if2 .if2 .left (at-nodes-in .nodes-in .ensures ∙ z)) r _ (at-list-marked .list-marked .ensures)
 
 pub find-spec : {M : Type 1} → statement M
 find-spec =

@@ -3,9 +3,11 @@
 -- Assumes nothing.
 use Prim.Native.Nat.{ℕ, _<_}
 use native.Mathlib.Omega.{arith}
-use mathlib.Core.Path.{sym, _∙_}
+use mathlib.Core.Path.{_≡_, sym, _∙_, ap}
 use lib.ListN.{length}
-use Rattle.split.proofs.Halves.{Known, Bounds, bounds, low-length, left-asks, right-asks, whole-length, rest, back-length, finish, few}
+use Rattle.split.proofs.Halves.{Known, Bounds, bounds, low-length, node-fits, left-asks, right-asks, whole-length, rest, back-length, finish, few}
+use Rattle.model.specs.Packed.{unpacked, Packs}
+use Rattle.model.proofs.Packing.{node-store}
 use borrow.Fn.Kinds.{In, Out}
 use borrow.Fn.PlainCycle.{Measures, is, falls, and}
 use Rattle.split.proofs.build.Reads as build
@@ -39,12 +41,16 @@ abbrev Place : ℕ → Type 0
 Place t = build-lts.After-slice-known4 (calls t) (build-at t) build.Post
 
 abbrev start : (t : ℕ) → Place t → build-lts.Start (calls t) (build-at t) build.Post
-start t c = c .before .before .before .before .before .before .before .before .before
+start t c =
+    let at-place = c .before .before .before .before .before .before .before .before .before in
+    at-place
 
 known : (t : ℕ) (c : Place t)
-    → Known (start t c .args .width) (start t c .args .signatures .now) (start t c .args .group .now) (c .before .before .before .split .last .1 .0) (start t c .args .links .now)
+    → Known (start t c .args .width) (start t c .args .signatures .now) (start t c .args .group .now) (c .before .before .before .split .last .1 .0) (start t c .args .nodes .now)
     (c .before .before .before .split .result .position) (c .before .before .before .split .result .low) (start t c .args .first) t
 known t c =
+    let at-split = c .before .before .before in
+    let at-if1 = at-split .before .before in
     let s = start t c in
     record {
       measure = s .pre .0;
@@ -52,8 +58,8 @@ known t c =
       small = s .pre .1 .1 .0 .0;
       room = s .pre .1 .1 .0 .1;
       node = s .pre .1 .1 .1;
-      halved = c .before .before .before .split .ensures;
-      many = c .before .before .before .before .before .if1 .left;
+      halved = at-split .split .ensures;
+      many = at-if1 .if1 .left;
     }
 
 numbers : (t : ℕ) (c : Place t)
@@ -61,9 +67,10 @@ numbers : (t : ℕ) (c : Place t)
 numbers t c = bounds _ _ _ _ _ _ _ _ _ (known t c)
 
 returns : At build-lts.Need-returns
-returns t c =
-    let a = c .before .before .before .before .args in
-    few (a .width) (a .signatures .now) (a .group .now) (a .first) (a .links .now) (c .if1 .taken)
+returns t c links P =
+    let entry = c .before .before .before .before in
+    let a = entry .args in
+    few (a .width) (a .signatures .now) (a .group .now) (a .first) (unpacked links (a .nodes .now)) (c .if1 .taken)
 
 split-requires : At build-lts.Need-split-requires
 split-requires t c κs =
@@ -102,8 +109,11 @@ reference-requires-2 t c κs = omega (arith, numbers t (c .before .before))
 
 set-node-requires : At build-lts.Need-set-node-requires
 set-node-requires t c κs =
+    let at-reference2 = c .before in
+    let at-reference = at-reference2 .before .before in
     let at-split = c .before .before .before .before in
-    (known t at-split .room, omega (arith, numbers t at-split))
+    let K = known t at-split in
+    ((K .node .0, omega (arith, numbers t at-split, K .room)), node-fits _ _ _ _ _ _ _ _ _ K _ _ (at-reference .reference .ensures) (at-reference2 .reference2 .ensures))
 
 slice-relend-prefix-build : At build-lts.Need-slice-relend-prefix-build
 slice-relend-prefix-build t c =
@@ -173,7 +183,7 @@ same-length-2 t c =
     back-length _ _ _ _ _ _ _ _ _ (known t at-split) (at-build .build .last .1 .1 .0) (at-build .build .kept .1 .1 .0) (at-build2 .build2 .last .1 .1 .0) (at-build2 .build2 .kept .1 .1 .0)
 
 returns-2 : At build-lts.Need-returns-2
-returns-2 t c =
+returns-2 t c links P =
     let at-build2 = c .before .before .before .before in
     let at-build = at-build2 .before .before .before .before .before .before .before in
     let at-set-node = at-build .before .before .before .before .before in
@@ -181,11 +191,22 @@ returns-2 t c =
     let at-reference = at-reference2 .before .before in
     let at-split = at-reference .before in
     let K = known t at-split in
+    let a = start t at-split .args in
     let one = at-build .build in
     let two = at-build2 .build2 in
+    let left = at-reference .reference in
+    let right = at-reference2 .reference2 in
+    let n0 = at-set-node .set-node .last .0 in
+    let n1 = one .last .1 .0 in
+    let fit = node-fits _ _ _ _ _ _ _ _ _ K _ _ (left .ensures) (right .ensures) in
     let e = rest _ _ _ _ _ _ _ _ _ K (one .last .1 .1 .0) (one .kept .1 .1 .0) in
-    finish _ _ _ _ _ _ _ _ _ K (at-reference .reference .result) (at-reference2 .reference2 .result) (at-set-node .set-node .last .0) (one .last .1 .0) (two .last .1 .0)
-    (at-reference .reference .ensures) (at-reference2 .reference2 .ensures) (at-set-node .set-node .ensures) (one .ensures) (rw e at (two .ensures))
+    let k0 : length n0 ≡ length (a .nodes .now) = at-set-node .set-node .kept .0 in
+    let k1 : length n1 ≡ length n0 = one .kept .1 .0 in
+    let P0 : Packs (length (a .signatures .now)) links n0 = record { rows-long = P .rows-long; nodes-long = omega (arith, P .nodes-long) } in
+    let P1 : Packs (length (a .signatures .now)) links n1 = record { rows-long = P .rows-long; nodes-long = omega (arith, P .nodes-long) } in
+    let e0 = ap (unpacked links) (at-set-node .set-node .ensures) ∙ sym (node-store _ links (a .nodes .now) P (a .first) _ (left .result) (right .result) (K .node .0) (omega (arith, numbers t at-split)) (fit .1) (fit .2)) in
+    finish _ _ _ _ _ _ _ _ _ K (unpacked links (a .nodes .now)) (left .result) (right .result) (unpacked links n0) (unpacked links n1) (unpacked links (two .last .1 .0))
+    (left .ensures) (right .ensures) e0 (one .ensures links P0) (rw e at (two .ensures links P1))
 
 pub +build-spec : {M : Type 1} → statement M
 +build-spec = close μ-build λ t. build-lts.spec (calls t) (build-at t) build.Post

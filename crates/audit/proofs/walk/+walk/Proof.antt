@@ -7,6 +7,7 @@ use borrow.Author.Tests.{not-true, not-false}
 use borrow.Fn.Kinds.{In, Out}
 use borrow.Fn.PlainCycle.{Measures, is, falls, and}
 use mathlib.Core.Path.{sym, _∙_}
+use Rattle.audit.proofs.Either.{leaf-row}
 use Rattle.audit.proofs.WalkLaws.{walk-leaf, walk-out, walk-done, walk-bad, walk-stop, walk-both}
 use Rattle.audit.proofs.walk.walk.Reads as walk
 use Rattle.audit.proofs.walk.walk.Kinds as walk-kinds
@@ -18,28 +19,33 @@ use Rattle.audit.proofs.walk.passed.Reads as passed-reads
 use Rattle.audit.proofs.walk.+walk.{statement}
 use Rattle.audit.proofs.walk.+walk.Tie.{close}
 
-abbrev μ-walk : Measures 2 walk-kinds.ps ℕ
-μ-walk κs a = a .1 .1 .1 .1 .0
+abbrev μ-walk : Measures 3 walk-kinds.ps ℕ
+μ-walk κs a = a .1 .1 .1 .1 .1 .0
 
-abbrev walk-at : ℕ → In 2 walk-kinds.ps
-walk-at t = and 2 walk-kinds.ps (is 2 walk-kinds.ps μ-walk t) walk.Pre
+abbrev walk-at : ℕ → In 3 walk-kinds.ps
+walk-at t = and 3 walk-kinds.ps (is 3 walk-kinds.ps μ-walk t) walk.Pre
 
-abbrev walk-below : ℕ → In 2 walk-kinds.ps
-walk-below t = and 2 walk-kinds.ps (falls 2 walk-kinds.ps _<_ μ-walk t) walk.Pre
+abbrev walk-below : ℕ → In 3 walk-kinds.ps
+walk-below t = and 3 walk-kinds.ps (falls 3 walk-kinds.ps _<_ μ-walk t) walk.Pre
 
 -- what the calls ask and give where the measure is t
 abbrev calls : ℕ → walk-lts.Claims
 calls t = (leaf-reads.Asked, leaf-reads.Learnt, no-part-reads.Asked, no-part-reads.Learnt, look-reads.Asked, look-reads.Learnt, passed-reads.Asked, passed-reads.Learnt, walk-below t, walk.Post)
 
 -- a need at each measure
-abbrev At : (walk-lts.Claims → In 2 walk-lts.ps → Out 2 walk-lts.ps walk-lts.r → Type 0) → Type 0
+abbrev At : (walk-lts.Claims → In 3 walk-lts.ps → Out 3 walk-lts.ps walk-lts.r → Type 0) → Type 0
 At need = (t : ℕ) → need (calls t) (walk-at t) walk.Post
 
 leaf-requires : At walk-lts.Need-leaf-requires
-leaf-requires t c κs = search needs
+leaf-requires t c κs =
+    let entry = c .before .before .before .before in
+    (entry .pre .1 .rows, c .if1 .taken)
 
 returns : At walk-lts.Need-returns
-returns t c = c .leaf .ensures ∙ sym (walk-leaf _ _ _ _ _ _ (c .before .if1 .taken))
+returns t c =
+    let at-if1 = c .before in
+    let entry = at-if1 .before .before .before .before in
+    c .leaf .ensures ∙ sym (leaf-row _ _ _ (entry .pre .1 .rows) _ _ _) ∙ sym (walk-leaf _ _ _ _ _ _ (at-if1 .if1 .taken))
 
 no-part-requires : At walk-lts.Need-no-part-requires
 no-part-requires t c κs = search needs
@@ -60,7 +66,10 @@ sub-look : At walk-lts.Need-sub-look
 sub-look t c = search needs
 
 look-requires : At walk-lts.Need-look-requires
-look-requires t c κs = search needs
+look-requires t c κs =
+    let at-if1 = c .before .before .before in
+    let entry = at-if1 .before .before .before .before in
+    let p = entry .pre .1 in (p .rows .blocks-to, p .rows .blocks-from, p .form, p .rows .width-to, omega (arith, at-if1 .if1 .left))
 
 no-part-requires-3 : At walk-lts.Need-no-part-requires-3
 no-part-requires-3 t c κs = search needs
@@ -77,8 +86,8 @@ returns-4 t c =
 sub-rest : At walk-lts.Need-sub-rest
 sub-rest t c = search needs
 
-sub-t17 : At walk-lts.Need-sub-t17
-sub-t17 t c = search needs
+sub-t18 : At walk-lts.Need-sub-t18
+sub-t18 t c = search needs
 
 passed-requires : At walk-lts.Need-passed-requires
 passed-requires t c κs = search needs
@@ -102,8 +111,8 @@ passed-requires-2 t c κs = search needs
 
 walk-requires-2 : At walk-lts.Need-walk-requires-2
 walk-requires-2 t c κs =
+    let entry = c .before .before .before .before .before .before .before .before .before .before .before .before .before .before .before .before in
     let at-if2 = c .before .before .before .before .before .before .before .before .before .before .before in
-    let entry = at-if2 .before .before .before .before in
     (omega (arith, entry .pre .0, at-if2 .if2 .left), entry .pre .1)
 
 returns-6 : At walk-lts.Need-returns-6
@@ -132,7 +141,7 @@ pub +walk-spec : {M : Type 1} → statement M
     (no-part-requires-3 t)
     (returns-4 t)
     (sub-rest t)
-    (sub-t17 t)
+    (sub-t18 t)
     (passed-requires t)
     (walk-requires t)
     (returns-5 t)

@@ -41,16 +41,22 @@ returns-3 c =
     let entry = at-if1 .before .before .before .before in
     leaf-passes _ _ _ _ _ _ (at-if1 .if1 .left) (omega (arith, at-if2 .if2 .left, at-compares-in .compares-in .ensures)) _ (at-take-compare .take-compare .ensures) (sym (covers-read _ _ _ _ _ (entry .pre .0 .low) (at-covers .covers .ensures .0) (at-signature-of .signature-of .ensures)) ∙ not-true _ (c .if3 .taken))
 
-mark-chain-requires : tie.Need-mark-chain-requires
-mark-chain-requires c κs = search needs
+mark-leaf-requires : tie.Need-mark-leaf-requires
+mark-leaf-requires c κs =
+    let at-if3 = c .before in
+    let at-covers = at-if3 .before in
+    let at-signature-of = at-covers .before in
+    let at-if1 = at-signature-of .before .before .before .before in
+    let entry = c .before .before .before .before .before .before .before .before .before .before .before in
+    (entry .pre .0, (omega (arith, at-if1 .if1 .left), entry .pre .1, sym (covers-read _ _ _ _ _ (entry .pre .0 .low) (at-covers .covers .ensures .0) (at-signature-of .signature-of .ensures)) ∙ not-false _ (at-if3 .if3 .left)))
 
 same-length : tie.Need-same-length
 same-length c = search needs
 
 returns-4 : tie.Need-returns-4
 returns-4 c =
-    let at-mark-chain = c .before .before in
-    let at-if3 = at-mark-chain .before .before in
+    let at-mark-leaf = c .before .before in
+    let at-if3 = at-mark-leaf .before .before in
     let at-covers = at-if3 .before in
     let at-signature-of = at-covers .before in
     let at-take-compare = at-signature-of .before in
@@ -58,7 +64,7 @@ returns-4 c =
     let at-compares-in = at-if2 .before in
     let at-if1 = at-compares-in .before in
     let entry = at-if1 .before .before .before .before in
-    leaf-marks _ _ _ _ _ _ (at-if1 .if1 .left) (omega (arith, at-if2 .if2 .left, at-compares-in .compares-in .ensures)) _ (at-take-compare .take-compare .ensures) (sym (covers-read _ _ _ _ _ (entry .pre .0 .low) (at-covers .covers .ensures .0) (at-signature-of .signature-of .ensures)) ∙ not-false _ (at-if3 .if3 .left)) _ (at-mark-chain .mark-chain .ensures)
+    leaf-marks _ _ _ _ _ _ (at-if1 .if1 .left) (omega (arith, at-if2 .if2 .left, at-compares-in .compares-in .ensures)) _ (at-take-compare .take-compare .ensures) (sym (covers-read _ _ _ _ _ (entry .pre .0 .low) (at-covers .covers .ensures .0) (at-signature-of .signature-of .ensures)) ∙ not-false _ (at-if3 .if3 .left)) _ (at-mark-leaf .mark-leaf .ensures)
 
 pub leaf-spec : {M : Type 1} → statement M
 leaf-spec =
@@ -71,6 +77,6 @@ leaf-spec =
     signature-of-requires
     covers-requires
     returns-3
-    mark-chain-requires
+    mark-leaf-requires
     same-length
     returns-4)

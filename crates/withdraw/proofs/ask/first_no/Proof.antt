@@ -1,12 +1,12 @@
 -- `withdraw::ask::first_no` meets its contract: at each return the answers that led there say which question refuses.
 -- Assumes nothing.
-use mathlib.Core.Path.{sym, _∙_}
-use borrow.Author.Tests.{eq-eqb, ne-eqb, not-true, not-false}
-use Rattle.model.proofs.Asking.{in-range}
-use Rattle.tables.proofs.Fits.{row-inside}
-use Rattle.model.specs.Questions.{ask, withdrawRefusal}
-use borrow.Author.Needs.{needs}
 use native.Mathlib.Omega.{arith}
+use mathlib.Core.Path.{sym, _∙_}
+use lib.ListN.{length}
+use borrow.Author.Needs.{needs}
+use borrow.Author.Tests.{not-true, not-false}
+use Rattle.model.proofs.Asking.{in-range}
+use Rattle.withdraw.proofs.Packed.{says-4, says-5, says-8, says-none}
 use Rattle.withdraw.proofs.ask.first_no.Statement.{statement}
 use Rattle.withdraw.proofs.ask.first_no.Tie as tie
 
@@ -14,46 +14,49 @@ tables-fit-requires : tie.Need-tables-fit-requires
 tables-fit-requires c κs = search needs
 
 returns : tie.Need-returns
-unfolding withdrawRefusal ask
 returns c =
-    let f = sym (c .before .tables-fit .ensures .0) ∙ not-true _ (c .if1 .taken) in
-    (rw (f, withdrawRefusal, ask), λ z. absurd (omega arith))
+    let at-tables-fit = c .before in
+    let entry = at-tables-fit .before .before .before .before in
+    let a = entry .args in says-4 (a .signatures .now) (a .links .now) (a .nodes .now) (a .block) (sym (at-tables-fit .tables-fit .ensures .0) ∙ not-true _ (c .if1 .taken))
 
 is-block-requires : tie.Need-is-block-requires
 is-block-requires c κs = search needs
 
 returns-2 : tie.Need-returns-2
-unfolding withdrawRefusal ask
 returns-2 c =
-    let f = sym (c .before .before .before .tables-fit .ensures .0) ∙ not-false _ (c .before .before .if1 .left) in
-    let k = sym (c .before .is-block .ensures) ∙ not-true _ (c .if2 .taken) in
-    (rw (f, withdrawRefusal, ask, k), λ z. absurd (omega arith))
+    let at-is-block = c .before in
+    let at-if1 = at-is-block .before in
+    let at-tables-fit = at-if1 .before in
+    let entry = at-tables-fit .before .before .before .before in
+    let a = entry .args in says-5 (a .signatures .now) (a .links .now) (a .nodes .now) (a .block) (sym (at-tables-fit .tables-fit .ensures .0) ∙ not-false _ (at-if1 .if1 .left)) (at-tables-fit .tables-fit .ensures .1 (not-false _ (at-if1 .if1 .left))) (sym (at-is-block .is-block .ensures) ∙ not-true _ (c .if2 .taken))
 
 filed-of-requires : tie.Need-filed-of-requires
 filed-of-requires c κs =
-    let t = not-false _ (c .before .before .if1 .left) in
-    let k = sym (c .before .is-block .ensures) ∙ not-false _ (c .if2 .left) in
-    let r = in-range _ _ k in
-    row-inside _ _ _ (r .0) (r .1) (c .before .before .before .tables-fit .ensures .1 t .links-long)
+    let at-is-block = c .before in
+    let at-if1 = at-is-block .before in
+    let at-tables-fit = at-if1 .before in
+    let entry = at-tables-fit .before .before .before .before in
+    let f = at-tables-fit .tables-fit .ensures .1 (not-false _ (at-if1 .if1 .left)) in let r = in-range (entry .args .block) (length (entry .args .signatures .now)) (sym (at-is-block .is-block .ensures) ∙ not-false _ (c .if2 .left)) in omega (arith, f .packs .rows-long, r)
 
 returns-3 : tie.Need-returns-3
-unfolding withdrawRefusal ask
 returns-3 c =
-    let f = sym (c .before .before .before .before .before .tables-fit .ensures .0) ∙ not-false _ (c .before .before .before .before .if1 .left) in
-    let k = sym (c .before .before .before .is-block .ensures) ∙ not-false _ (c .before .before .if2 .left) in
-    let z = sym (c .before .filed-of .ensures) ∙ c .if3 .taken in
-    (rw (f, withdrawRefusal, ask, k, eq-eqb _ 0 z), λ y. absurd (omega arith))
+    let at-filed-of = c .before in
+    let at-if2 = at-filed-of .before in
+    let at-is-block = at-if2 .before in
+    let at-if1 = at-is-block .before in
+    let at-tables-fit = at-if1 .before in
+    let entry = at-tables-fit .before .before .before .before in
+    let a = entry .args in says-8 (a .signatures .now) (a .links .now) (a .nodes .now) (a .block) (sym (at-tables-fit .tables-fit .ensures .0) ∙ not-false _ (at-if1 .if1 .left)) (at-tables-fit .tables-fit .ensures .1 (not-false _ (at-if1 .if1 .left))) (sym (at-is-block .is-block .ensures) ∙ not-false _ (at-if2 .if2 .left)) (sym (at-filed-of .filed-of .ensures) ∙ c .if3 .taken)
 
 returns-4 : tie.Need-returns-4
-unfolding withdrawRefusal ask
 returns-4 c =
-    let t = not-false _ (c .before .before .before .before .if1 .left) in
-    let f = sym (c .before .before .before .before .before .tables-fit .ensures .0) ∙ not-false _ (c .before .before .before .before .if1 .left) in
-    let k = sym (c .before .before .before .is-block .ensures) ∙ not-false _ (c .before .before .if2 .left) in
-    let r = in-range _ _ k in
-    let e = c .before .filed-of .ensures in
-    let n = c .if3 .left in
-    (rw (f, withdrawRefusal, ask, k, ne-eqb _ 0 (λ z. n (e ∙ z))), λ y. record { fits = c .before .before .before .before .before .tables-fit .ensures .1 t; from = r .0; to = r .1; filed = λ z. n (e ∙ z) })
+    let at-filed-of = c .before in
+    let at-if2 = at-filed-of .before in
+    let at-is-block = at-if2 .before in
+    let at-if1 = at-is-block .before in
+    let at-tables-fit = at-if1 .before in
+    let entry = at-tables-fit .before .before .before .before in
+    let a = entry .args in says-none (a .signatures .now) (a .links .now) (a .nodes .now) (a .block) (sym (at-tables-fit .tables-fit .ensures .0) ∙ not-false _ (at-if1 .if1 .left)) (at-tables-fit .tables-fit .ensures .1 (not-false _ (at-if1 .if1 .left))) (sym (at-is-block .is-block .ensures) ∙ not-false _ (at-if2 .if2 .left)) (λ z. c .if3 .left (at-filed-of .filed-of .ensures ∙ z))
 
 pub first-no-spec : {M : Type 1} → statement M
 first-no-spec =

@@ -2,6 +2,7 @@
 -- Assumes nothing.
 use mathlib.Core.Path.{sym, _∙_}
 use borrow.Author.Tests.{not-true, not-false}
+use Rattle.model.proofs.Packing.{row-word}
 use Rattle.withdraw.proofs.Plans.{unlinks}
 use Rattle.model.proofs.Asking.{in-range, not-in-range}
 use borrow.Author.Needs.{needs}
@@ -13,7 +14,7 @@ is-block-requires : tie.Need-is-block-requires
 is-block-requires c κs = search needs
 
 returns : tie.Need-returns
-returns c = ((λ cs h k q m. not-in-range _ _ (sym (c .before .is-block .ensures) ∙ not-true _ (c .if1 .taken)) h k), tt)
+returns c = ((λ nodes cs h k q m. not-in-range _ _ (sym (c .before .is-block .ensures) ∙ not-true _ (c .if1 .taken)) h k), tt)
 
 find-before-requires : tie.Need-find-before-requires
 find-before-requires c κs =
@@ -21,7 +22,7 @@ find-before-requires c κs =
     (omega arith, omega arith, r .0, r .1)
 
 returns-2 : tie.Need-returns-2
-returns-2 c = ((λ cs h k q m. let z = c .before .find-before .ensures .0 cs q m .1 in absurd (omega (arith, c .if2 .taken))), tt)
+returns-2 c = ((λ nodes cs h k q m. let z = c .before .find-before .ensures .0 nodes cs q m .1 in absurd (omega (arith, c .if2 .taken))), tt)
 
 next-of-requires : tie.Need-next-of-requires
 next-of-requires c κs = omega arith
@@ -36,7 +37,7 @@ add-at : tie.Need-add-at
 add-at c = search needs
 
 returns-3 : tie.Need-returns-3
-returns-3 c = ((λ cs h k q m. unlinks _ _ _ _ _ _ (c .before .before .find-before .ensures .0 cs q m .0) (c .next-of .ensures)), (omega arith, omega (arith, c .before .before .find-before .ensures .1)))
+returns-3 c = ((λ nodes cs h k q m. unlinks _ _ _ _ _ _ (c .before .before .find-before .ensures .0 nodes cs q m .0) (c .next-of .ensures ∙ sym (row-word _ nodes _ (omega arith)))), (omega arith, omega (arith, c .before .before .find-before .ensures .1), omega (arith, c .next-of .ensures)))
 
 pub plan-chain-spec : {M : Type 1} → statement M
 plan-chain-spec =

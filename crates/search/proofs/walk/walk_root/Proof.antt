@@ -1,0 +1,29 @@
+-- `search::walk::walk_root` meets its contract: a root that is no leaf is the word that is read for it.
+-- Assumes nothing.
+use borrow.Author.Needs.{needs}
+use mathlib.Core.Path.{sym, _∙_}
+use Rattle.search.proofs.Nodes.{walk-at}
+use Rattle.search.proofs.walk.walk_root.Statement.{statement}
+use Rattle.search.proofs.walk.walk_root.Tie as tie
+
+word-at-requires : tie.Need-word-at-requires
+word-at-requires c κs =
+    let entry = c .before .before .before .before .before in
+    (entry .pre .1, entry .pre .0 .packs .nodes-long)
+
+walk-requires : tie.Need-walk-requires
+walk-requires c κs = search needs
+
+returns : tie.Need-returns
+returns c =
+    let at-word-at = c .before .before .before .before .before in
+    let entry = at-word-at .before .before .before .before .before .before in
+    (c .walk .ensures .0, c .walk .ensures .1 ∙ sym (walk-at _ _ _ (entry .pre .0 .packs) _ _ _ (entry .pre .1) (at-word-at .word-at .ensures) _ _ _))
+
+pub walk-root-spec : {M : Type 1} → statement M
+walk-root-spec =
+    tie.close
+    (tie.spec
+    word-at-requires
+    walk-requires
+    returns)
