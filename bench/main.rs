@@ -2,10 +2,11 @@
 //! tables and queries. No caller clears a buffer first: the marks hold the last search's, and each search sets its own.
 #[path = "../examples/c_face.rs"]
 mod c_face;
-mod hand;
 
 use c_face::*;
+use hand::{Counts, Tables};
 use std::hint::black_box;
+use std::ops::Range;
 use std::time::Instant;
 
 struct Rng(u64);
@@ -29,167 +30,335 @@ impl Rng {
         }
         s
     }
+    /// Queries of k bits, each from a stored signature's.
+    fn queries(&mut self, signatures: &[u64], count: usize, k: u32) -> Vec<u64> {
+        (0..count)
+            .map(|_| {
+                let from = signatures[(self.next() % signatures.len() as u64) as usize];
+                self.bits(k, from)
+            })
+            .collect()
+    }
 }
 
 const WIDTH: u32 = 64;
 
-struct Index {
+/// The tables, and the library's calls that change them or only read them.
+#[derive(Clone, PartialEq)]
+struct Store {
     signatures: Vec<u64>,
     links: Vec<u32>,
-    scratch: Vec<u32>,
+    nodes: Vec<u64>,
+}
+
+impl Store {
+    fn filed(signatures: &[u64]) -> Store {
+        let n = signatures.len();
+        let mut x = Store { signatures: vec![0; n], links: vec![0; 5 + 2 * n], nodes: vec![0; n - 1] };
+        let (s, l, d) = (&mut x.signatures, &mut x.links, &mut x.nodes);
+        assert_eq!(unsafe { sigtree_clear(s.as_mut_ptr(), n, l.as_mut_ptr(), l.len(), d.as_mut_ptr(), d.len(), WIDTH) }, 0);
+        for (b, &signature) in signatures.iter().enumerate() {
+            x.file(b as u32 + 1, signature);
+        }
+        x
+    }
+    fn file(&mut self, b: u32, signature: u64) {
+        let (s, l, d) = (&mut self.signatures, &mut self.links, &mut self.nodes);
+        let answer = unsafe { sigtree_file(s.as_mut_ptr(), s.len(), l.as_mut_ptr(), l.len(), d.as_mut_ptr(), d.len(), b, signature) };
+        assert_eq!(answer, 0);
+    }
+    fn withdraw(&mut self, b: u32) {
+        let (s, l, d) = (&mut self.signatures, &mut self.links, &mut self.nodes);
+        assert_eq!(unsafe { sigtree_withdraw(s.as_mut_ptr(), s.len(), l.as_mut_ptr(), l.len(), d.as_mut_ptr(), d.len(), b) }, 0);
+    }
+    fn rebuild(&mut self, scratch: &mut [u32]) {
+        let (s, l, d) = (&self.signatures, &mut self.links, &mut self.nodes);
+        let (c, k) = (scratch.as_mut_ptr(), scratch.len());
+        assert_eq!(unsafe { sigtree_rebuild(s.as_ptr(), s.len(), l.as_mut_ptr(), l.len(), d.as_mut_ptr(), d.len(), c, k) }, 0);
+    }
+    fn audit(&self) {
+        let (s, l, d) = (&self.signatures, &self.links, &self.nodes);
+        assert_eq!(unsafe { sigtree_audit(s.as_ptr(), s.len(), l.as_ptr(), l.len(), d.as_ptr(), d.len()) }, 0);
+    }
+    fn pack(&mut self, old: &[u32]) {
+        let (s, l, d) = (&self.signatures, &mut self.links, &mut self.nodes);
+        let (o, k) = (old.as_ptr(), old.len());
+        assert_eq!(unsafe { sigtree_pack(s.as_ptr(), s.len(), o, k, l.as_mut_ptr(), l.len(), d.as_mut_ptr(), d.len()) }, 0);
+    }
+    fn unpack(&self, old: &mut [u32]) {
+        let (s, l, d) = (&self.signatures, &self.links, &self.nodes);
+        let (o, k) = (old.as_mut_ptr(), old.len());
+        assert_eq!(unsafe { sigtree_unpack(s.as_ptr(), s.len(), l.as_ptr(), l.len(), d.as_ptr(), d.len(), o, k) }, 0);
+    }
+    /// The links of the form with three words a node.
+    fn old_links(&self) -> Vec<u32> {
+        let mut old = vec![0; 5 * self.signatures.len() + 2];
+        self.unpack(&mut old);
+        old
+    }
+    fn rebuilt(mut self) -> Store {
+        let mut scratch = vec![0; self.signatures.len()];
+        self.rebuild(&mut scratch);
+        self
+    }
+}
+
+/// Who searches.
+#[derive(Clone, Copy, PartialEq)]
+enum Side {
+    Library,
+    Plain,
+    Fastest,
+    Loop,
+    ThreeWords,
+    Scan,
+}
+
+const SIDES: [Side; 6] = [Side::Library, Side::Plain, Side::Fastest, Side::Loop, Side::ThreeWords, Side::Scan];
+
+/// A store in both forms, and the buffers that every search borrows.
+struct Searched {
+    store: Store,
+    old: Vec<u32>,
     marks: Vec<u8>,
     output: Vec<u32>,
 }
 
-impl Index {
-    fn filed(signatures: &[u64]) -> Index {
-        let n = signatures.len();
-        let mut x = Index { signatures: vec![0; n], links: vec![0; 5 * n + 2], scratch: vec![0; n], marks: vec![0; n], output: vec![0; n] };
-        assert_eq!(unsafe { sigtree_clear(x.signatures.as_mut_ptr(), n, x.links.as_mut_ptr(), 5 * n + 2, WIDTH) }, 0);
-        for (b, &s) in signatures.iter().enumerate() {
-            x.file(b as u32 + 1, s);
-        }
-        x
+impl Searched {
+    fn of(store: Store) -> Searched {
+        let (old, n) = (store.old_links(), store.signatures.len());
+        Searched { store, old, marks: vec![0; n], output: vec![0; n] }
     }
-    fn file(&mut self, b: u32, s: u64) {
-        let (n, m) = (self.signatures.len(), self.links.len());
-        assert_eq!(unsafe { sigtree_file(self.signatures.as_mut_ptr(), n, self.links.as_mut_ptr(), m, b, s) }, 0);
-    }
-    fn withdraw(&mut self, b: u32) {
-        let (n, m) = (self.signatures.len(), self.links.len());
-        assert_eq!(unsafe { sigtree_withdraw(self.signatures.as_mut_ptr(), n, self.links.as_mut_ptr(), m, b) }, 0);
-    }
-    fn rebuild(&mut self) {
-        let (n, m) = (self.signatures.len(), self.links.len());
-        assert_eq!(unsafe { sigtree_rebuild(self.signatures.as_ptr(), n, self.links.as_mut_ptr(), m, self.scratch.as_mut_ptr(), n) }, 0);
-    }
-    fn audit(&self) {
-        assert_eq!(unsafe { sigtree_audit(self.signatures.as_ptr(), self.signatures.len(), self.links.as_ptr(), self.links.len()) }, 0);
-    }
-    fn search(&mut self, q: u64) -> hand::Counts {
-        let (n, m) = (self.signatures.len(), self.links.len());
-        let mut c = hand::Counts { found: 0, compares: 0, bits: 0 };
+
+    fn by_library(&mut self, query: u64) -> Counts {
+        let (s, l, d) = (&self.store.signatures, &self.store.links, &self.store.nodes);
+        let (m, o) = (&mut self.marks, &mut self.output);
+        let mut c = Counts::default();
         let answer = unsafe {
             sigtree_search(
-                self.signatures.as_ptr(), n, self.links.as_ptr(), m, q, self.marks.as_mut_ptr(), n, self.output.as_mut_ptr(), n,
+                s.as_ptr(), s.len(), l.as_ptr(), l.len(), d.as_ptr(), d.len(), query, m.as_mut_ptr(), m.len(), o.as_mut_ptr(), o.len(),
                 &mut c.found, &mut c.compares, &mut c.bits,
             )
         };
         assert_eq!(answer, 0);
         c
     }
-    fn hand<const LEAF_FIRST: bool>(&mut self, q: u64) -> hand::Counts {
-        unsafe { hand::search::<LEAF_FIRST>(&self.signatures, &self.links, q, &mut self.marks, &mut self.output) }
+
+    fn search(&mut self, side: Side, query: u64) -> Counts {
+        let packed = Tables { signatures: &self.store.signatures, links: &self.store.links, nodes: &self.store.nodes };
+        let old = Tables { links: &self.old, nodes: &[], ..packed };
+        let (m, o) = (&mut self.marks[..], &mut self.output[..]);
+        // SAFETY: the library has left the tables sound, and the buffers are as long as the signatures.
+        unsafe {
+            match side {
+                Side::Library => self.by_library(query),
+                Side::Plain => hand::plain(packed, query, m, o),
+                Side::Fastest => hand::fastest(packed, query, m, o),
+                Side::Loop => hand::looped(packed, query, m, o),
+                Side::ThreeWords => hand::three_words(old, query, m, o),
+                Side::Scan => Counts { found: hand::scan(packed, query, m, o), ..Counts::default() },
+            }
+        }
     }
-    fn scan(&mut self, q: u64) -> u32 {
-        hand::scan(&self.signatures, &self.links, q, &mut self.marks, &mut self.output)
+
+    /// The counts of a query, on which all agree: counts, marks and list. What one has left cannot pass for the next one's.
+    fn agreed(&mut self, query: u64) -> Counts {
+        let ours = self.search(Side::Library, query);
+        let found = ours.found as usize;
+        let (marks, list) = (self.marks.clone(), self.output[..found].to_vec());
+        for side in &SIDES[1..] {
+            self.marks.fill(2);
+            self.output.fill(0);
+            let theirs = self.search(*side, query);
+            assert!(theirs == ours || *side == Side::Scan && theirs.found == ours.found);
+            assert!(self.marks == marks && self.output[..found] == list);
+        }
+        ours
+    }
+
+    /// Nanoseconds a search of each side over the queries, and the means of what is found and compared.
+    fn measured<const N: usize>(&mut self, sides: [Side; N], queries: &[u64], turns: usize) -> ([f64; N], [f64; 2]) {
+        let n = queries.len() as f64;
+        let counts: Vec<Counts> = queries.iter().map(|&q| self.agreed(q)).collect();
+        let mean = |count: fn(&Counts) -> u32| counts.iter().map(|c| count(c) as f64).sum::<f64>() / n;
+        let parts: Vec<&[u64]> = queries.chunks(queries.len() / PARTS).collect();
+        let times = least(turns, PARTS, |side, part| {
+            timed(|| {
+                for &q in parts[part] {
+                    black_box(self.search(sides[side], q));
+                }
+            })
+        });
+        (times.map(|t| t / n), [mean(|c| c.found), mean(|c| c.compares)])
     }
 }
 
-/// The least of some turns, in nanoseconds: other work on the machine only ever adds.
-fn least(turns: usize, mut work: impl FnMut()) -> f64 {
-    (0..turns)
-        .map(|_| {
-            let from = Instant::now();
-            work();
-            from.elapsed().as_nanos() as f64
-        })
-        .fold(f64::INFINITY, f64::min)
+/// Into how many parts work is parted that is timed in parts.
+const PARTS: usize = 16;
+
+/// In nanoseconds.
+fn timed(work: impl FnOnce()) -> f64 {
+    let from = Instant::now();
+    work();
+    from.elapsed().as_nanos() as f64
 }
 
-/// One turn over the queries, in nanoseconds.
-fn each(queries: &[u64], mut search: impl FnMut(u64)) -> f64 {
-    least(1, || queries.iter().for_each(|&q| search(q)))
+/// The least time of each of N over some turns: other work on the machine only ever adds. They take turns, so that it adds to all of
+/// them; each goes once before it is timed, so that it finds in the caches, and in what the processor foresees, its own last turn; and
+/// the parts of its work are timed each for itself, so that one interruption does not spoil a turn.
+fn least<const N: usize>(turns: usize, parts: usize, mut time: impl FnMut(usize, usize) -> f64) -> [f64; N] {
+    let mut least = vec![[f64::INFINITY; N]; parts];
+    for _ in 0..turns {
+        for i in 0..N {
+            for part in 0..parts {
+                time(i, part);
+            }
+            for (part, least) in least.iter_mut().enumerate() {
+                least[i] = least[i].min(time(i, part));
+            }
+        }
+    }
+    std::array::from_fn(|i| least.iter().map(|part| part[i]).sum())
 }
 
-fn searches(name: &str, tree: &str, x: &mut Index, rng: &mut Rng) {
+fn is_large(blocks: usize) -> bool {
+    blocks > 10_000
+}
+
+/// Short work takes more turns, so that some of them are not interrupted.
+fn turns(blocks: usize) -> usize {
+    if is_large(blocks) { 15 } else { 500 }
+}
+
+/// What the summary needs of a row of searches.
+struct Row {
+    blocks: usize,
+    bits: u32,
+    to_fastest: f64,
+    to_loop: f64,
+    one_to_three: f64,
+}
+
+fn searches(name: &str, tree: &str, store: Store, rng: &mut Rng, rows: &mut Vec<Row>) {
+    let blocks = store.signatures.len();
     let distinct = {
-        let mut s = x.signatures.clone();
+        let mut s = store.signatures.clone();
         s.sort_unstable();
         s.dedup();
         s.len()
     };
-    for k in [0, 1, 2, 4, 8, 16, 24, 32] {
-        let turns = if x.signatures.len() > 10_000 { 7 } else { 200 };
-        let queries: Vec<u64> = (0..16)
-            .map(|_| {
-                let from = x.signatures[(rng.next() % x.signatures.len() as u64) as usize];
-                rng.bits(k, from)
-            })
-            .collect();
-        let (mut compares, mut found) = (0u64, 0u64);
-        for &q in &queries {
-            let (a, b, c, n) = (x.search(q), x.hand::<false>(q), x.hand::<true>(q), x.scan(q));
-            assert!(a == b && a == c && a.found == n);
-            compares += a.compares as u64;
-            found += a.found as u64;
-        }
-        let [mut ours, mut by_hand, mut leaf_first, mut by_scan] = [f64::INFINITY; 4];
-        for _ in 0..turns {
-            ours = ours.min(each(&queries, |q| drop(black_box(x.search(q)))));
-            by_hand = by_hand.min(each(&queries, |q| drop(black_box(x.hand::<false>(q)))));
-            leaf_first = leaf_first.min(each(&queries, |q| drop(black_box(x.hand::<true>(q)))));
-            by_scan = by_scan.min(each(&queries, |q| {
-                black_box(x.scan(q));
-            }));
-        }
-        let n = queries.len() as f64;
+    let mut x = Searched::of(store);
+    // few searches of a small store would be learnt by heart: the processor would foresee every branch
+    let (count, turns) = if is_large(blocks) { (16, 15) } else { (256, 50) };
+    for bits in [0, 1, 2, 4, 8, 16, 24, 32] {
+        let queries = rng.queries(&x.store.signatures, count, bits);
+        let ([ours, plain, fastest, looped, three, scan], [found, compares]) = x.measured(SIDES, &queries, turns);
+        let row = Row { blocks, bits, to_fastest: ours / fastest, to_loop: ours / looped, one_to_three: fastest / three };
         println!(
-            "| {name} | {tree} | {distinct} | {k} | {:.0} | {:.0} | {:.1} | {:.2} | {:.2} | {:.2} |",
-            found as f64 / n, compares as f64 / n, ours / n / 1000.0, ours / by_hand, ours / leaf_first, ours / by_scan
+            "| {name} | {tree} | {distinct} | {bits} | {found:.0} | {compares:.0} | {:.1} | {:.2} | {:.2} | {:.2} | {:.2} | {:.2} |",
+            ours / 1000.0, ours / plain, row.to_fastest, row.to_loop, row.one_to_three, ours / scan
         );
+        rows.push(row);
     }
 }
 
 /// How a search grows with the number of blocks: queries of 8 bits on rebuilt trees of random signatures of weight 32.
 fn growth(n: usize, rng: &mut Rng) {
     let signatures: Vec<u64> = (0..n).map(|_| rng.bits(32, 0)).collect();
-    let mut x = Index::filed(&signatures);
-    x.rebuild();
-    let queries: Vec<u64> = (0..64).map(|i| rng.bits(8, signatures[i * 7 % n])).collect();
-    let compares: u64 = queries.iter().map(|&q| x.search(q).compares as u64).sum();
-    let (mut ours, mut by_hand) = (f64::INFINITY, f64::INFINITY);
-    for _ in 0..9 {
-        ours = ours.min(each(&queries, |q| drop(black_box(x.search(q)))));
-        by_hand = by_hand.min(each(&queries, |q| drop(black_box(x.hand::<false>(q)))));
+    let queries = rng.queries(&signatures, 64, 8);
+    let mut x = Searched::of(Store::filed(&signatures).rebuilt());
+    let ([ours, plain, fastest], [_, compares]) = x.measured([Side::Library, Side::Plain, Side::Fastest], &queries, turns(n));
+    println!("| {n} | {compares:.0} | {:.1} | {:.1} | {:.2} | {:.2} |", ours / 1000.0, ours / compares, ours / plain, ours / fastest);
+}
+
+#[derive(Clone, Copy)]
+enum Change {
+    File,
+    Withdraw,
+    Rebuild,
+}
+
+/// Files or withdraws some of the blocks in turn, or rebuilds. The scratch is as long as the signatures.
+fn change(x: &mut Store, change: Change, by_hand: bool, some: Range<usize>, signatures: &[u64], scratch: &mut [u32]) {
+    let blocks = some.map(|i| (i as u32 + 1, signatures[i]));
+    if !by_hand {
+        return match change {
+            Change::File => blocks.for_each(|(b, s)| x.file(b, s)),
+            Change::Withdraw => blocks.for_each(|(b, _)| x.withdraw(b)),
+            Change::Rebuild => x.rebuild(scratch),
+        };
     }
-    let (a, c) = (ours / queries.len() as f64, compares as f64 / queries.len() as f64);
-    println!("| {n} | {c:.0} | {:.1} | {:.1} | {:.2} |", a / 1000.0, a / c, ours / by_hand);
+    let (s, l, d) = (&mut x.signatures[..], &mut x.links[..], &mut x.nodes[..]);
+    // SAFETY: the tables are sound; the blocks are filed, or unfiled where they are to be filed.
+    match change {
+        Change::File => blocks.for_each(|(b, signature)| unsafe { hand::file(s, l, d, b, signature) }),
+        Change::Withdraw => blocks.for_each(|(b, _)| unsafe { hand::withdraw(s, l, d, b) }),
+        Change::Rebuild => unsafe { hand::rebuild(s, l, d, scratch) },
+    }
 }
 
 fn changes(name: &str, signatures: &[u64]) {
-    let n = signatures.len() as u32;
-    let mut x = Index::filed(signatures);
-    let turns = if n > 10_000 { 3 } else { 15 };
-    let (mut file, mut file_hand, mut withdraw, mut withdraw_hand) = (f64::INFINITY, f64::INFINITY, f64::INFINITY, f64::INFINITY);
-    for _ in 0..turns {
-        withdraw = withdraw.min(least(1, || (1..=n).for_each(|b| x.withdraw(b))));
-        file = file.min(least(1, || (1..=n).for_each(|b| x.file(b, signatures[b as usize - 1]))));
-        let (s, l) = (&mut x.signatures, &mut x.links);
-        withdraw_hand = withdraw_hand.min(least(1, || (1..=n).for_each(|b| unsafe { hand::withdraw(s, l, b) })));
-        file_hand = file_hand.min(least(1, || (1..=n).for_each(|b| unsafe { hand::file(s, l, b, signatures[b as usize - 1]) })));
+    let (filed, n) = (Store::filed(signatures), signatures.len());
+    let mut scratch = vec![0; n];
+    let mut emptied = filed.clone();
+    change(&mut emptied, Change::Withdraw, false, 0..n, signatures, &mut scratch);
+    for (call, kind, from, parts, digits) in [
+        ("file, each", Change::File, &emptied, PARTS, 3),
+        ("withdraw, each", Change::Withdraw, &filed, PARTS, 3),
+        ("rebuild, with its audit", Change::Rebuild, &filed, 1, 0),
+    ] {
+        let mut left = [from.clone(), from.clone()];
+        let [ours, by_hand] = least(turns(n), parts, |side, part| {
+            if part == 0 {
+                left[side].clone_from(from);
+            }
+            let some = n * part / parts..n * (part + 1) / parts;
+            timed(|| change(&mut left[side], kind, side == 1, some, signatures, &mut scratch))
+        });
+        assert!(left[0] == left[1]);
+        let calls = if parts == 1 { 1 } else { n };
+        println!("| {name} | {call} | {:.digits$} | {:.2} |", ours / calls as f64 / 1000.0, ours / by_hand);
     }
-    let filed = x.links.clone();
-    let mut group = Vec::with_capacity(signatures.len());
-    let (mut rebuild, mut rebuild_hand) = (f64::INFINITY, f64::INFINITY);
-    for _ in 0..turns {
-        x.links.copy_from_slice(&filed);
-        rebuild = rebuild.min(least(1, || x.rebuild()));
-        let ours = x.links.clone();
-        x.links.copy_from_slice(&filed);
-        rebuild_hand = rebuild_hand.min(least(1, || unsafe { hand::rebuild(&x.signatures, &mut x.links, &mut group) }));
-        assert!(ours == x.links);
-    }
-    let audit = least(turns, || x.audit());
-    let per = n as f64;
-    println!("| {name} | file, each | {:.3} | {:.2} |", file / per / 1000.0, file / file_hand);
-    println!("| {name} | withdraw, each | {:.3} | {:.2} |", withdraw / per / 1000.0, withdraw / withdraw_hand);
-    println!("| {name} | rebuild, with its audit | {:.0} | {:.2} |", rebuild / 1000.0, rebuild / rebuild_hand);
+    let [audit] = least(turns(n), 1, |_, _| timed(|| filed.audit()));
     println!("| {name} | audit | {:.0} | |", audit / 1000.0);
 }
 
-fn main() {
-    let mut rng = Rng(20261115);
+fn conversions(name: &str, signatures: &[u64]) {
+    let from = Store::filed(signatures);
+    let old = from.old_links();
+    let mut packed = Store { signatures: from.signatures.clone(), links: vec![0; from.links.len()], nodes: vec![0; from.nodes.len()] };
+    let mut unpacked = vec![0; old.len()];
+    let [audit, pack, unpack] = least(turns(signatures.len()), 1, |call, _| match call {
+        0 => timed(|| from.audit()),
+        1 => timed(|| packed.pack(&old)),
+        _ => timed(|| from.unpack(&mut unpacked)),
+    });
+    assert!(packed == from && unpacked == old);
+    println!("| {name} | {:.0} | {:.0} | {:.0} |", audit / 1000.0, pack / 1000.0, unpack / 1000.0);
+}
+
+/// The geometric mean of some rows, and the largest.
+fn mean_and_largest(rows: &[&Row], ratio: fn(&Row) -> f64) -> (f64, f64) {
+    let logs: f64 = rows.iter().map(|&r| ratio(r).ln()).sum();
+    ((logs / rows.len() as f64).exp(), rows.iter().map(|&r| ratio(r)).fold(0.0, f64::max))
+}
+
+fn summary(rows: &[Row]) {
+    println!("\nGeometric means, and the largest of the rows.\n");
+    println!("| B | bits set | to fastest | largest | to loop | largest | one word to three | largest |");
+    println!("|---|---|---|---|---|---|---|---|");
+    for blocks in [1024, 65535] {
+        for (label, many) in [("4 and more", true), ("fewer", false)] {
+            let some: Vec<&Row> = rows.iter().filter(|r| r.blocks == blocks && (r.bits >= 4) == many).collect();
+            let ratios = [|r: &Row| r.to_fastest, |r: &Row| r.to_loop, |r: &Row| r.one_to_three];
+            let cells = ratios.map(|ratio| mean_and_largest(&some, ratio)).map(|(mean, largest)| format!("{mean:.2} | {largest:.2}"));
+            println!("| {blocks} | {label} | {} |", cells.join(" | "));
+        }
+    }
+}
+
+/// Random signatures of a weight, and a record of 1,000 kinds of minute.
+fn stores(rng: &mut Rng) -> Vec<(String, Vec<u64>)> {
     let mut stores = Vec::new();
     for n in [1024, 65535] {
         for weight in [32, 16] {
@@ -200,26 +369,40 @@ fn main() {
     let kinds: Vec<u64> = (0..1000).map(|_| rng.bits(16, 0)).collect();
     let clock: Vec<u64> = (0..65535).map(|_| kinds[(rng.next() % 1000) as usize]).collect();
     stores.push(("clock-like, B 65535".into(), clock));
+    stores
+}
 
-    println!("No buffer is cleared before a search: the marks hold the last one's, and each search sets its own.\n");
-    println!("| store | tree | distinct | bits set | found | compares | us a search | to hand-written | to leaf-first | to linear scan |");
-    println!("|---|---|---|---|---|---|---|---|---|---|");
+fn heading(columns: &str) {
+    println!("\n| {columns} |\n|{}", "---|".repeat(columns.split(" | ").count()));
+}
+
+fn main() {
+    let mut rng = Rng(20261115);
+    let stores = stores(&mut rng);
+    println!("No buffer is cleared before a search: the marks hold the last one's, and each search sets its own.");
+    println!("Hand-written: one recursive function. Fastest: the fastest found that calls itself on each side. Loop: faster by other");
+    println!("steps. One word to three: the fastest over one word a node to the same over three.");
+    heading(
+        "store | tree | distinct | bits set | found | compares | us a search | to hand-written | to fastest | to loop | \
+         one word to three | to linear scan",
+    );
+    let mut rows = Vec::new();
     for (name, signatures) in &stores {
-        let mut x = Index::filed(signatures);
-        searches(name, "as filed", &mut x, &mut rng);
-        x.rebuild();
-        searches(name, "rebuilt", &mut x, &mut rng);
+        let filed = Store::filed(signatures);
+        searches(name, "as filed", filed.clone(), &mut rng, &mut rows);
+        searches(name, "rebuilt", filed.rebuilt(), &mut rng, &mut rows);
     }
-    println!();
-    println!("| B | compares | us a search | ns a compare | to hand-written |");
-    println!("|---|---|---|---|---|");
+    heading("B | compares | us a search | ns a compare | to hand-written | to fastest");
     for n in [1024, 4096, 16384, 65535] {
         growth(n, &mut rng);
     }
-    println!();
-    println!("| store | call | us | to hand-written |");
-    println!("|---|---|---|---|");
+    heading("store | call | us | to hand-written");
     for (name, signatures) in &stores {
         changes(name, signatures);
     }
+    heading("store | audit | pack, with its audit | unpack, with its audit");
+    for (name, signatures) in &stores {
+        conversions(name, signatures);
+    }
+    summary(&rows);
 }
