@@ -1,4 +1,4 @@
--- One word per node (document 02, Ticket 11). The tables of 5 * B + 2 links stay the definitions: Sound, the tree, and what each call
+-- One word per node (Ticket 11). The tables of 5 * B + 2 links stay the definitions: Sound, the tree, and what each call
 -- leaves are said of them. The packed form holds the same tables in other slices: 2 * B + 5 links, and a word for each of B - 1 nodes.
 -- Assumes nothing.
 use Prim.Native.Nat.{ℕ, zero, suc, _+_, _*_, _/_, _%_, _^_}

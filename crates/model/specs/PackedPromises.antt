@@ -1,4 +1,4 @@
--- What each call promises of packed tables (document 02, Ticket 11): lengths that do not fit get 4, and nothing changes; where they
+-- What each call promises of packed tables (Ticket 11): lengths that do not fit get 4, and nothing changes; where they
 -- fit, the promise of the tables that the slices hold, and slices that are as long as before, and untouched where the call is refused.
 -- Assumes nothing.
 use Prim.Native.Nat.{ℕ, _-_}
