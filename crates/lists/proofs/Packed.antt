@@ -3,20 +3,20 @@
 use Prim.Native.Nat.{ℕ, zero, suc, _+_, _*_}
 use native.Mathlib.Decide.{ℕ-discrete}
 use native.Mathlib.Omega.{arith}
-use mathlib.Core.Path.{_≡_, refl, _∙_, ap}
-use mathlib.Core.Logic.{⊎-elim}
+use mathlib.Core.Path.{_≡_, refl, _∙_, ap, ap₂}
+use mathlib.Core.Logic.{⊎-elim, _≢_}
 use mathlib.Core.Bool.{true}
 use mathlib.Core.List.{List, [], _∷_, _++_}
 use lib.ListN.{length, replicate, length-replicate, replicate-append-replicate}
 use Rattle.model.specs.Tree.{Tree, nothing}
 use Rattle.model.specs.Packed.{opened, unpacked}
-use Rattle.model.specs.Questions.{Call, clear, file, withdraw, rebuild, search, audit, Reading, refused, carries}
+use Rattle.model.specs.Questions.{Work, Call, clear, file, withdraw, rebuild, search, audit, Reading, refused, carries}
 use Rattle.model.specs.Ledger.{Ledger, emptyLedger, Report}
 use Rattle.model.specs.Promises.{Changes}
 use Rattle.model.specs.Lists.{Memory, Gives, GivesReading, reading, Step, Run}
 use Rattle.model.specs.Claim.{Claim, Begins, zeros}
 use Rattle.model.specs.PackedPromises.{packedFit}
-use Rattle.model.specs.PackedLists.{held, PackedGives, PackedStep, PackedRun}
+use Rattle.model.specs.PackedLists.{PackedMemory, held, PackedGives, PackedStep, PackedRun}
 use Rattle.lists.specs.Moves.{refusalIn}
 use Rattle.lists.proofs.Demand.{demand}
 
@@ -72,6 +72,32 @@ run-held sigs links nodes f (u ∷ us) r = (step-held sigs links nodes f u (r .0
 pub packed-demand : (sigs links nodes : List ℕ) → packedFit sigs links nodes ≡ true → (L : Ledger) (t : Tree) → Begins sigs (unpacked links nodes) L t → (us : List PackedStep) → PackedRun sigs links nodes us
     → Claim L t sigs (unpacked links nodes) (heldSteps us)
 packed-demand sigs links nodes f L t b us r = demand sigs (unpacked links nodes) L t b (heldSteps us) (run-held sigs links nodes f us r)
+
+-- A refusal leaves the slices themselves as they were, not only the tables that they hold.
+abbrev pub Untouched : List ℕ → List ℕ → List ℕ → List PackedStep → Type 0
+Untouched sigs links nodes [] = Unit {0}
+Untouched sigs links nodes (u ∷ us) =
+    (u .report .answer ≢ 0 → u .left ≡ record { signatures = sigs; links = links; nodes = nodes; work = u .lent })
+    × Untouched (u .left .signatures) (u .left .links) (u .left .nodes) us
+
+same-memory : (M N : PackedMemory) → M .signatures ≡ N .signatures → M .links ≡ N .links → M .nodes ≡ N .nodes → M .work ≡ N .work → M ≡ N
+same-memory M N a b c d =
+    ap₂ (λ (s l : List ℕ). record { signatures = s; links = l; nodes = M .nodes; work = M .work }) a b
+    ∙ ap₂ (λ (n : List ℕ) (w : Work). record { signatures = N .signatures; links = N .links; nodes = n; work = w }) c d
+
+claim-untouched : (sigs links nodes : List ℕ) → packedFit sigs links nodes ≡ true → (L : Ledger) (t : Tree) (us : List PackedStep) → PackedRun sigs links nodes us
+    → Claim L t sigs (unpacked links nodes) (heldSteps us) → Untouched sigs links nodes us
+claim-untouched sigs links nodes f L t [] r c = tt
+claim-untouched sigs links nodes f L t (u ∷ us) r c = (
+  (λ n. let e = c .0 .untouched n in
+      let k = r .0 .asked f .1 .untouched n in
+      same-memory (u .left) (record { signatures = sigs; links = links; nodes = nodes; work = u .lent }) (ap (λ (M : Memory). M .signatures) e) (k .0) (k .1) (ap (λ (M : Memory). M .work) e)),
+  claim-untouched (u .left .signatures) (u .left .links) (u .left .nodes) (step-fits sigs links nodes f u (r .0)) _ _ us (r .1) (c .1),
+)
+
+pub packed-untouched : (sigs links nodes : List ℕ) → packedFit sigs links nodes ≡ true → (L : Ledger) (t : Tree) → Begins sigs (unpacked links nodes) L t → (us : List PackedStep) → PackedRun sigs links nodes us
+    → Untouched sigs links nodes us
+packed-untouched sigs links nodes f L t b us r = claim-untouched sigs links nodes f L t us r (packed-demand sigs links nodes f L t b us r)
 
 -- zeros hold zeros
 zero-opened : (n : ℕ) → opened (replicate n 0) ≡ replicate (n * 3) 0
