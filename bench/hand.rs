@@ -1,6 +1,7 @@
 //! What the library is measured beside: a linear scan, and the tree's search, filing, withdrawing and rebuilding hand-written with no
 //! index checked. None asks any question, and all trust the tables. They are a crate of their own: compiled into the program, they moved
-//! by a fifth from build to build with the code around them.
+//! by a fifth from build to build with the code around them. It is compiled twice: as `hand` for any x86-64 processor, which is how the
+//! library is delivered, and as `hand_native` for the one that runs it.
 //!
 //! The searches, each between the same clearing and the same listing:
 //! - `plain`: one recursive function.

@@ -1,5 +1,7 @@
 //! Ratios in one run: the library's calls beside a linear scan and beside the same algorithms hand-written in unsafe Rust, on the same
 //! tables and queries. No caller clears a buffer first: the marks hold the last search's, and each search sets its own.
+//! What is hand-written is compiled for any x86-64 processor, as the library is, so that a ratio compares two programs and not two
+//! instruction sets. The fastest search is also compiled for this processor, to show what its own instructions would give.
 #[path = "../examples/c_face.rs"]
 mod c_face;
 
@@ -109,12 +111,23 @@ enum Side {
     Library,
     Plain,
     Fastest,
+    FastestNative,
     Loop,
     ThreeWords,
     Scan,
 }
 
-const SIDES: [Side; 6] = [Side::Library, Side::Plain, Side::Fastest, Side::Loop, Side::ThreeWords, Side::Scan];
+const SIDES: [Side; 7] = [Side::Library, Side::Plain, Side::Fastest, Side::FastestNative, Side::Loop, Side::ThreeWords, Side::Scan];
+
+/// `hand::fastest` compiled for this processor. The two crates are one source, but each has types of its own.
+///
+/// # Safety
+/// As for `hand::plain`.
+unsafe fn fastest_native(Tables { signatures, links, nodes }: Tables, query: u64, marks: &mut [u8], output: &mut [u32]) -> Counts {
+    let tables = hand_native::Tables { signatures, links, nodes };
+    let hand_native::Counts { found, compares, bits } = hand_native::fastest(tables, query, marks, output);
+    Counts { found, compares, bits }
+}
 
 /// A store in both forms, and the buffers that every search borrows.
 struct Searched {
@@ -154,6 +167,7 @@ impl Searched {
                 Side::Library => self.by_library(query),
                 Side::Plain => hand::plain(packed, query, m, o),
                 Side::Fastest => hand::fastest(packed, query, m, o),
+                Side::FastestNative => fastest_native(packed, query, m, o),
                 Side::Loop => hand::looped(packed, query, m, o),
                 Side::ThreeWords => hand::three_words(old, query, m, o),
                 Side::Scan => Counts { found: hand::scan(packed, query, m, o), ..Counts::default() },
@@ -235,6 +249,7 @@ struct Row {
     blocks: usize,
     bits: u32,
     to_fastest: f64,
+    to_native: f64,
     to_loop: f64,
     one_to_three: f64,
 }
@@ -252,13 +267,12 @@ fn searches(name: &str, tree: &str, store: Store, rng: &mut Rng, rows: &mut Vec<
     let (count, turns) = if is_large(blocks) { (16, 15) } else { (256, 50) };
     for bits in [0, 1, 2, 4, 8, 16, 24, 32] {
         let queries = rng.queries(&x.store.signatures, count, bits);
-        let ([ours, plain, fastest, looped, three, scan], [found, compares]) = x.measured(SIDES, &queries, turns);
-        let row = Row { blocks, bits, to_fastest: ours / fastest, to_loop: ours / looped, one_to_three: fastest / three };
-        println!(
-            "| {name} | {tree} | {distinct} | {bits} | {found:.0} | {compares:.0} | {:.1} | {:.2} | {:.2} | {:.2} | {:.2} | {:.2} |",
-            ours / 1000.0, ours / plain, row.to_fastest, row.to_loop, row.one_to_three, ours / scan
-        );
-        rows.push(row);
+        let ([ours, plain, fastest, native, looped, three, scan], [found, compares]) = x.measured(SIDES, &queries, turns);
+        let (to_fastest, to_native, to_loop, one_to_three) = (ours / fastest, ours / native, ours / looped, fastest / three);
+        let ratios = [ours / plain, to_fastest, to_native, to_loop, one_to_three, ours / scan].map(|ratio| format!("{ratio:.2}"));
+        let us = ours / 1000.0;
+        println!("| {name} | {tree} | {distinct} | {bits} | {found:.0} | {compares:.0} | {us:.1} | {} |", ratios.join(" | "));
+        rows.push(Row { blocks, bits, to_fastest, to_native, to_loop, one_to_three });
     }
 }
 
@@ -344,13 +358,14 @@ fn mean_and_largest(rows: &[&Row], ratio: fn(&Row) -> f64) -> (f64, f64) {
 }
 
 fn summary(rows: &[Row]) {
-    println!("\nGeometric means, and the largest of the rows.\n");
-    println!("| B | bits set | to fastest | largest | to loop | largest | one word to three | largest |");
-    println!("|---|---|---|---|---|---|---|---|");
+    println!("\nGeometric means, and the largest of the rows.");
+    heading(
+        "B | bits set | to fastest | largest | to fastest, this processor's | largest | to loop | largest | one word to three | largest",
+    );
     for blocks in [1024, 65535] {
         for (label, many) in [("4 and more", true), ("fewer", false)] {
             let some: Vec<&Row> = rows.iter().filter(|r| r.blocks == blocks && (r.bits >= 4) == many).collect();
-            let ratios = [|r: &Row| r.to_fastest, |r: &Row| r.to_loop, |r: &Row| r.one_to_three];
+            let ratios = [|r: &Row| r.to_fastest, |r: &Row| r.to_native, |r: &Row| r.to_loop, |r: &Row| r.one_to_three];
             let cells = ratios.map(|ratio| mean_and_largest(&some, ratio)).map(|(mean, largest)| format!("{mean:.2} | {largest:.2}"));
             println!("| {blocks} | {label} | {} |", cells.join(" | "));
         }
@@ -381,10 +396,11 @@ fn main() {
     let stores = stores(&mut rng);
     println!("No buffer is cleared before a search: the marks hold the last one's, and each search sets its own.");
     println!("Hand-written: one recursive function. Fastest: the fastest found that calls itself on each side. Loop: faster by other");
-    println!("steps. One word to three: the fastest over one word a node to the same over three.");
+    println!("steps. One word to three: the fastest over one word a node to the same over three. All are compiled for any x86-64");
+    println!("processor, as the library is, and the fastest once more for this one.");
     heading(
-        "store | tree | distinct | bits set | found | compares | us a search | to hand-written | to fastest | to loop | \
-         one word to three | to linear scan",
+        "store | tree | distinct | bits set | found | compares | us a search | to hand-written | to fastest | \
+         to fastest, this processor's | to loop | one word to three | to linear scan",
     );
     let mut rows = Vec::new();
     for (name, signatures) in &stores {

@@ -137,8 +137,8 @@ unsafe fn heads(lent: Lent, reference: usize, scratch: &mut [u32], gathered: usi
 }
 
 /// The position where the smaller side of a group is largest, the lowest of those: position by position, as the library goes. A signature
-/// is read as volatile so that no vector gathers it, which takes a quarter longer at B 1,024 and a tenth at 65,535. All positions in one
-/// pass over the group, by vectors of 64 counts, would make the rebuild 1.9 and 2.7 times as fast.
+/// is read as volatile so that no vector gathers it, which as `hand_native` takes a quarter longer at B 1,024 and a tenth at 65,535; there
+/// all positions in one pass over the group, by vectors of 64 counts, would make the rebuild 1.9 and 2.7 times as fast.
 unsafe fn best_position(lent: Lent, group: &[u32]) -> u32 {
     let (mut best, mut size) = (1, 0);
     for position in 1..=*lent.link(0) {

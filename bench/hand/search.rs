@@ -82,7 +82,7 @@ impl Form for OneWord {
 
 /// Three words a node, in the same way. The walk carries where they stand and the position, whose reading fetches the others.
 ///
-/// Tried, as below, this one 1.00: all three carried 1.21 and 1.09; none carried 1.03 and 1.04; none carried but fetched 1.02 and 1.03.
+/// Tried as below, this one 1.00: all three carried 1.21 and 1.09; none carried 1.03 and 1.04; none carried but fetched 1.02 and 1.03.
 #[derive(Clone, Copy)]
 struct ThreeWords(*const [u32; 3]);
 
@@ -189,11 +189,11 @@ impl Tally {
 /// The subtree at a node, as fast as we found it that calls itself. A leaf is told before the call and compared before the other side is
 /// walked, so that only a node with two nodes below it needs a call; there the right node is read before the left side is walked.
 ///
-/// Tried, geometric means over the benchmark's rows at B 1,024 and at 65,535, this one 1.00: left always before right 1.08 and 1.05;
-/// nothing read ahead 1.10 and 1.11; neither 1.15 and 1.13; the right word fetched and read later 1.08 and 1.05; the counts in memory
-/// 1.03 and 1.01; all behind one pointer 1.06 and 1.04, then left before right 1.07 and 1.05, then nothing read ahead 1.14 and 1.15;
-/// `plain` 1.29 and 1.20. By other steps: heads gathered as `looped` does 0.92 and 1.00; `looped` 0.78 and 0.93, with nothing gathered
-/// 0.93 and 0.98.
+/// Tried as `hand_native`, geometric means over the benchmark's rows at B 1,024 and at 65,535, this one 1.00: left always before right
+/// 1.08 and 1.05; nothing read ahead 1.10 and 1.11; neither 1.15 and 1.13; the right word fetched and read later 1.08 and 1.05; the counts
+/// in memory 1.03 and 1.01; all behind one pointer 1.06 and 1.04, then left before right 1.07 and 1.05, then nothing read ahead 1.14 and
+/// 1.15; `plain` 1.29 and 1.20. By other steps: heads gathered as `looped` does 0.92 and 1.00; `looped` 0.78 and 0.93, with nothing
+/// gathered 0.93 and 0.98.
 unsafe fn sides<F: Form>(walk: &Walk, query: u64, blocks: usize, nodes: F, mut node: F::Node, mut tally: Tally) -> Tally {
     loop {
         tally.0 += Tally::BIT;
@@ -252,7 +252,7 @@ impl Gathered {
 
 /// The same tree in a loop. Right nodes wait on a stack of its own: at most one for each of 64 positions. Compares are not counted: every
 /// node whose bit is 0 has two sides, so the leaves are one more than those. With no branch on the query's bit and on leaf or node either
-/// it was slower: 16 nodes at a time 1.4 at B 1,024 and 0.9 at 65,535, one at a time 2.3 and 1.4.
+/// it was slower as `hand_native`: 16 nodes at a time 1.4 at B 1,024 and 0.9 at 65,535, one at a time 2.3 and 1.4.
 unsafe fn by_loop(walk: &mut Walk, nodes: OneWord, root: usize) {
     let (query, blocks) = (turned(walk.query, walk.width), walk.blocks);
     let mut gathered = Gathered([MaybeUninit::uninit(); Gathered::ROOM]);

@@ -69,7 +69,7 @@ module _ (sigs links : List ℕ) (q : ℕ) (m out : List ℕ) (le : length sigs 
   abbrev Either : Report × List ℕ × List ℕ → Type 0
   Either o = Listing sigs links q m out (o .0) (o .1) (o .2) ⊎ GivenUp sigs m out (o .0) (o .1) (o .2)
 
-  either : (w : Budget × List ℕ) → Went sigs links q (lent (length sigs)) (cleared (length sigs) m) w → (t u : Bool) → eqb (w .0 .nodes) 0 ≡ u
+  either : (w : Budget × List ℕ) → Went sigs links q (lent (length sigs)) (cleared (length sigs) m) w → (t u : Bool) → eqb (w .0 .forks) 0 ≡ u
       → Either (pick t (bare 0, cleared (length sigs) m, out) (pick u (bare unsound, w .1, out) (listTwin (length sigs) w out)))
   either w g true u e =
       let z = cleared (length sigs) m in
@@ -92,7 +92,7 @@ module _ (sigs links : List ℕ) (q : ℕ) (m out : List ℕ) (le : length sigs 
     written = refl;
   })
   either w g false false e =
-      let some = eqb-false (w .0 .nodes) 0 e in
+      let some = eqb-false (w .0 .forks) 0 e in
       inl (record {
         zero = refl;
         list = listed (length sigs) (w .1);

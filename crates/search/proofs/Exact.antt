@@ -31,15 +31,21 @@ use Rattle.search.proofs.Marks.{Went}
 use Rattle.search.proofs.Listed.{marks-are, tested, matching-kept}
 use Rattle.search.proofs.Any.{cleared-at, cleared-long, cleared-drop, listed-none, grown-marks, grown-found, walk-from-cleared}
 use Rattle.search.proofs.Returns.{report-same}
-use Rattle.search.proofs.Shaped.{markAll, Unmarked, hits, reads, compares, walk-marks}
-use Rattle.search.proofs.Hits.{hits-blocks, reads-few, compares-few, few-heads, hits-distinct, few-hits, hits-cover, cover-hits}
-use Rattle.tables.proofs.Counts.{heads-count}
+use Rattle.search.proofs.Shaped.{markAll, Unmarked, hits, reads, compares, forks, compares-forks, walk-marks}
+use Rattle.search.proofs.Hits.{hits-blocks, reads-few, forks-few, few-heads, hits-distinct, few-hits, hits-cover, cover-hits}
 
 -- two tests that imply each other
 bool-same : (a b : Bool) → (a ≡ true → b ≡ true) → (b ≡ true → a ≡ true) → a ≡ b
 bool-same true b f g = sym (f refl)
 bool-same false true f g = g refl
 bool-same false false f g = refl
+
+-- what is used where the rest of it is left
+used-of : (n x : ℕ) → x ≤ n → n - (n - x) ≡ x
+used-of n x h = omega arith
+
+one-more : (n x : ℕ) → x ≡ 1 + n → n + 1 ≡ x
+one-more n x e = omega arith
 
 -- distinct blocks of which none is marked can be marked in turn
 unmarked-all : (bs m : List ℕ) → Distinct bs → ((b : ℕ) → List·Memᴰ b bs → (1 ≤ b) × (isMarked m b ≡ false)) → Unmarked m bs
@@ -163,37 +169,38 @@ module _ (sigs links : List ℕ) (q : ℕ) (m out : List ℕ) (S : Sound sigs li
 
     -- what the walk leaves
     abbrev w : Budget × List ℕ
-    w = (record { nodes = B - reads sigs F q t; compares = B - compares sigs F q t; blocks = B - length hs }, markAll z hs)
+    w = (record { nodes = B - 1 - reads sigs F q t; forks = B - forks sigs F q t; blocks = B - length hs }, markAll z hs)
 
-    enough : (reads sigs F q t < B) × (compares sigs F q t ≤ B) × (length hs ≤ B)
+    enough : (reads sigs F q t ≤ B - 1) × (forks sigs F q t < B) × (length hs ≤ B)
     enough =
         let a = few-heads B F sigs links [] t (rootOf links) held placed in
-        (omega (arith, reads-few sigs F q t), omega (arith, compares-few sigs F q t, heads-count t), few-hits B F sigs links q [] t (rootOf links) held placed)
+        let r = reads-few sigs F q t in
+        let f = forks-few sigs F q t in
+        (omega arith, omega arith, few-hits B F sigs links q [] t (rootOf links) held placed)
 
     walked : w ≡ walkTwin F sigs links q (rootOf links) (lent B) z
     walked =
         let e0 = enough .0 in
         let e1 = enough .1 in
         let e2 = enough .2 in
-        let a : reads sigs F q t + (B - reads sigs F q t) ≡ B = omega arith in
-        let b : compares sigs F q t + (B - compares sigs F q t) ≡ B = omega arith in
+        let a : reads sigs F q t + (B - 1 - reads sigs F q t) ≡ B - 1 = omega arith in
+        let b : forks sigs F q t + (B - forks sigs F q t) ≡ B = omega arith in
         let c : length hs + (B - length hs) ≡ B = omega arith in
         let free : Unmarked z hs = unmarked-all hs z (hits-distinct B F sigs links q [] t (rootOf links) held placed)
         (λ x n. let r = in-range x n in let low = r .0 in let high = r .1 in (low, ne-eqb (getD z (x - 1) 0) 1 (omega (arith, cleared-at B m (x - 1) (omega arith))))) in
-        sym (rw (a, b, c) at (walk-marks sigs links q [] t F (rootOf links) (B - reads sigs F q t) (B - compares sigs F q t) (B - length hs) z held placed (depth-root F sigs links t placed) (omega arith) free))
+        sym (rw (a, b, c) at (walk-marks sigs links q (S .fits .blocks-to) (S .fits .width-to) [] t F (rootOf links) (B - 1 - reads sigs F q t) (B - forks sigs F q t) (B - length hs) z held placed (depth-root F sigs links t placed) free))
 
     on-some : Exact (foundTwin sigs links q m out)
     on-some =
-        let e0 = enough .0 in
-        let e1 = enough .1 in
+        let some : B - forks sigs F q t ≡ 0 → ⊥ = let h = enough .1 in omega arith in
         let root : rootOf links ≡ 0 → ⊥ = rootless t held in
         let tree : treeOf sigs links ≡ treeShape sigs t = tree-of-sound S ∙ ap (treeRooted sigs) is in
         let g : Went sigs links q (lent B) z w = subst (Went sigs links q (lent B) z) (sym walked) (walk-from-cleared sigs links q m out le) in
         let list = list-is (markAll z hs) marks-tested in
         let f : B - (B - length hs) ≡ length (matching q (ledgerOf sigs links)) = omega (arith, g .spent (omega arith), grown-found sigs links q m out le (markAll z hs) (g .many) (g .grown), ap length list) in
-        let b : B - (B - reads sigs F q t) ≡ reads sigs F q t = omega arith in
-        let c : B - (B - compares sigs F q t) ≡ compares sigs F q t = omega arith in
-        subst Exact (found-list sigs links q m out z refl (w .0) (w .1) root walked (omega arith)) (
+        let b : B - 1 - (B - 1 - reads sigs F q t) ≡ reads sigs F q t = used-of (B - 1) (reads sigs F q t) (enough .0) in
+        let c : B - (B - forks sigs F q t) + 1 ≡ compares sigs F q t = ap (λ (n : ℕ). n + 1) (used-of B (forks sigs F q t) (let h = enough .1 in omega arith)) ∙ one-more (forks sigs F q t) (compares sigs F q t) (compares-forks sigs F q t) in
+        subst Exact (found-list sigs links q m out z refl (w .0) (w .1) root walked some) (
           report-same _ _ _ _ _ _ f (c ∙ sym (ap (λ (u : Tree). length (compared F q u)) tree)) (b ∙ sym (ap (nodesRead F q) tree)),
           grown-marks sigs links q m out le (markAll z hs) (g .many) (g .grown) ∙ ap (λ (l : List ℕ). marksAfter B l m) list,
           ap (λ (l : List ℕ). outputAfter l out) list,

@@ -12,7 +12,7 @@ use Rattle.model.specs.Basics.{pick}
 use Rattle.model.proofs.Pigeon.{few-within}
 use Rattle.tables.proofs.Distinct.{chain-distinct}
 use Rattle.model.specs.Signature.{bitAt, coversb}
-use Rattle.model.specs.Tree.{Edge, edge, compared, nodesRead}
+use Rattle.model.specs.Tree.{Edge, edge, nodesRead}
 use Rattle.model.specs.Tables.{leftOf, rightOf, signatureOf}
 use Rattle.model.specs.Sound.{Shape, tip, fork, Holds, nodes, blocks, Placed}
 use Rattle.model.proofs.Bits.{bit-cases}
@@ -20,7 +20,7 @@ use Rattle.model.proofs.Pigeon.{Distinct, distinct-append}
 use Rattle.signature.proofs.Covering.{coversb-sound}
 use Rattle.tables.proofs.Shapes.{blocks-range, blocks-placed, blocks-apart}
 use Rattle.tables.proofs.Counts.{heads, heads-count, heads-blocks, heads-distinct}
-use Rattle.search.proofs.Shaped.{hits, reads, compares, reads-set, reads-clear, compares-set, compares-clear, hits-set, hits-clear}
+use Rattle.search.proofs.Shaped.{hits, reads, forks, reads-set, reads-clear, forks-set, forks-clear, hits-set, hits-both, hits-side}
 
 module _ (sigs : List ℕ) (F q : ℕ) where
   pub hits-blocks : (t : Shape) (b : ℕ) → List·Memᴰ b (hits sigs F q t) → List·Memᴰ b (blocks t)
@@ -32,12 +32,10 @@ module _ (sigs : List ℕ) (F q : ℕ) where
   hits-blocks (fork i p l k) b m = go (bit-cases F q p) (hits-blocks l b) (hits-blocks k b)
     where
       go : (bitAt F q p ≡ 0) ⊎ (bitAt F q p ≡ 1) → (List·Memᴰ b (hits sigs F q l) → List·Memᴰ b (blocks l)) → (List·Memᴰ b (hits sigs F q k) → List·Memᴰ b (blocks k)) → List·Memᴰ b (blocks l ++ blocks k)
-      go (inl e) f g =
-          ⊎-elim (λ n. Memᴰ·append-left (blocks k) (f n)) (λ n. Memᴰ·append-right (blocks l) (g n))
-          (List·Memᴰ·append-cases (hits sigs F q l) (subst (List·Memᴰ b) (hits-clear sigs F q i p l k e) m))
+      go (inl e) f g = ⊎-elim (λ n. Memᴰ·append-left (blocks k) (f n)) (λ n. Memᴰ·append-right (blocks l) (g n)) (hits-side sigs F q i p l k e b m)
       go (inr e) f g = Memᴰ·append-right (blocks l) (g (subst (List·Memᴰ b) (hits-set sigs F q i p l k e) m))
 
-  -- a search reads no more nodes and compares no more leaves than there are
+  -- a search reads no more nodes than there are, and goes both ways at no more than it reads
   pub reads-few : (t : Shape) → reads sigs F q t ≤ length (nodes t)
   unfolding nodesRead
   reads-few (tip h cs) = omega arith
@@ -47,14 +45,13 @@ module _ (sigs : List ℕ) (F q : ℕ) where
       go (inl e) a b = rw (reads-clear sigs F q i p l k e) (omega (arith, length-append (nodes l) (nodes k)))
       go (inr e) a b = rw (reads-set sigs F q i p l k e) (omega (arith, length-append (nodes l) (nodes k)))
 
-  pub compares-few : (t : Shape) → compares sigs F q t ≤ length (heads t)
-  unfolding compared
-  compares-few (tip h cs) = omega arith
-  compares-few (fork i p l k) = go (bit-cases F q p) (compares-few l) (compares-few k)
+  pub forks-few : (t : Shape) → forks sigs F q t ≤ reads sigs F q t
+  forks-few (tip h cs) = omega arith
+  forks-few (fork i p l k) = go (bit-cases F q p) (forks-few l) (forks-few k)
     where
-      go : (bitAt F q p ≡ 0) ⊎ (bitAt F q p ≡ 1) → compares sigs F q l ≤ length (heads l) → compares sigs F q k ≤ length (heads k) → compares sigs F q (fork i p l k) ≤ length (heads (fork i p l k))
-      go (inl e) a b = rw (compares-clear sigs F q i p l k e) (omega (arith, length-append (heads l) (heads k)))
-      go (inr e) a b = rw (compares-set sigs F q i p l k e) (omega (arith, length-append (heads l) (heads k)))
+      go : (bitAt F q p ≡ 0) ⊎ (bitAt F q p ≡ 1) → forks sigs F q l ≤ reads sigs F q l → forks sigs F q k ≤ reads sigs F q k → forks sigs F q (fork i p l k) ≤ reads sigs F q (fork i p l k)
+      go (inl e) a b = rw (reads-clear sigs F q i p l k e, forks-clear sigs F q i p l k e) (omega arith)
+      go (inr e) a b = rw (reads-set sigs F q i p l k e, forks-set sigs F q i p l k e) (omega arith)
 
 module _ (B F : ℕ) (sigs L : List ℕ) where
   pub few-heads : (path : List Edge) (t : Shape) (r : ℕ) → Holds B L r t → Placed F sigs L path t → suc (length (nodes t)) ≤ B
@@ -73,8 +70,9 @@ module _ (B F : ℕ) (sigs L : List ℕ) where
       where
         go : (bitAt F q p ≡ 0) ⊎ (bitAt F q p ≡ 1) → Distinct (hits sigs F q l) → Distinct (hits sigs F q k) → Distinct (hits sigs F q (fork i p l k))
         go (inl e) a b =
-            subst Distinct (sym (hits-clear sigs F q i p l k e))
+            hits-both sigs F q i p l k Distinct e
             (distinct-append (hits sigs F q l) (hits sigs F q k) a b (λ c m n. blocks-apart B L F sigs path i p l k pl c (hits-blocks sigs F q l c m) (hits-blocks sigs F q k c n)))
+            (distinct-append (hits sigs F q k) (hits sigs F q l) b a (λ c m n. blocks-apart B L F sigs path i p l k pl c (hits-blocks sigs F q l c n) (hits-blocks sigs F q k c m)))
         go (inr e) a b = subst Distinct (sym (hits-set sigs F q i p l k e)) b
 
     pub few-hits : (path : List Edge) (t : Shape) (r : ℕ) → Holds B L r t → Placed F sigs L path t → length (hits sigs F q t) ≤ B
@@ -90,7 +88,7 @@ module _ (B F : ℕ) (sigs L : List ℕ) where
     hits-cover path (fork i p l k) pl b m = go (bit-cases F q p) (hits-cover (edge p 0 ∷ path) l (pl .3) b) (hits-cover (edge p 1 ∷ path) k (pl .4) b)
       where
         go : (bitAt F q p ≡ 0) ⊎ (bitAt F q p ≡ 1) → (List·Memᴰ b (hits sigs F q l) → coversb F (signatureOf sigs b) q ≡ true) → (List·Memᴰ b (hits sigs F q k) → coversb F (signatureOf sigs b) q ≡ true) → coversb F (signatureOf sigs b) q ≡ true
-        go (inl e) f g = ⊎-elim f g (List·Memᴰ·append-cases (hits sigs F q l) (subst (List·Memᴰ b) (hits-clear sigs F q i p l k e) m))
+        go (inl e) f g = ⊎-elim f g (hits-side sigs F q i p l k e b m)
         go (inr e) f g = g (subst (List·Memᴰ b) (hits-set sigs F q i p l k e) m)
 
     -- and each block that covers it is among them
@@ -103,8 +101,8 @@ module _ (B F : ℕ) (sigs L : List ℕ) where
       where
         go : (bitAt F q p ≡ 0) ⊎ (bitAt F q p ≡ 1) → List·Memᴰ b (blocks l) ⊎ List·Memᴰ b (blocks k)
             → (List·Memᴰ b (blocks l) → List·Memᴰ b (hits sigs F q l)) → (List·Memᴰ b (blocks k) → List·Memᴰ b (hits sigs F q k)) → List·Memᴰ b (hits sigs F q (fork i p l k))
-        go (inl z) (inl n) f g = subst (List·Memᴰ b) (sym (hits-clear sigs F q i p l k z)) (Memᴰ·append-left (hits sigs F q k) (f n))
-        go (inl z) (inr n) f g = subst (List·Memᴰ b) (sym (hits-clear sigs F q i p l k z)) (Memᴰ·append-right (hits sigs F q l) (g n))
+        go (inl z) (inl n) f g = hits-both sigs F q i p l k (List·Memᴰ b) z (Memᴰ·append-left (hits sigs F q k) (f n)) (Memᴰ·append-right (hits sigs F q k) (f n))
+        go (inl z) (inr n) f g = hits-both sigs F q i p l k (List·Memᴰ b) z (Memᴰ·append-right (hits sigs F q l) (g n)) (Memᴰ·append-left (hits sigs F q l) (g n))
         go (inr z) (inl n) f g =
             let a : bitAt F (signatureOf sigs b) p ≡ 0 = blocks-placed B L F sigs (edge p 0 ∷ path) l (pl .3) b n .1 .0 in
             let c : bitAt F (signatureOf sigs b) p ≡ 1 = coversb-sound F (signatureOf sigs b) q e p (pl .0) (pl .1) z in

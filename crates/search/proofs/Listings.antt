@@ -1,4 +1,5 @@
--- The listing of the marked blocks in parts: one block more, a run without a mark, an early end, and parts one after the other.
+-- The listing of the marked blocks in parts: one block more, a run without a mark, an early end, and parts one after the other; and
+-- the invariant of the two loops over blocks.
 -- Assumes nothing.
 use Prim.Native.Nat.{ℕ, zero, suc, _+_, _-_, _≤_, _<_}
 use native.Mathlib.Decide.{ℕ-discrete}
@@ -66,9 +67,9 @@ module _ (m : List ℕ) where
     pub part-none : ListedPart m found from n₀ out₀ from n₀ out₀
     part-none = record { long = refl; beyond = refl; lists = λ B h e l. l }
 
-    -- the next block, by whether it is marked
+    -- one block more, by whether it is marked
     module _ (b n : ℕ) (out : List ℕ) (L : ListedPart m found from n₀ out₀ b n out) (lt : n < found) (len : n < length out) where
-      pub part-yes : isMarked m (b + 1) ≡ true → ListedPart m found from n₀ out₀ (b + 1) (n + 1) (set out n (b + 1))
+      part-yes : isMarked m (b + 1) ≡ true → ListedPart m found from n₀ out₀ (b + 1) (n + 1) (set out n (b + 1))
       part-yes e = record {
         long = length-set out n (b + 1) ∙ L .long;
         beyond = drop-set-lt found out n (b + 1) lt ∙ L .beyond;
@@ -81,7 +82,7 @@ module _ (m : List ℕ) where
             };
       }
 
-      pub part-no : isMarked m (b + 1) ≡ false → ListedPart m found from n₀ out₀ (b + 1) n (set out n (b + 1))
+      part-no : isMarked m (b + 1) ≡ false → ListedPart m found from n₀ out₀ (b + 1) n (set out n (b + 1))
       part-no e = record {
         long = length-set out n (b + 1) ∙ L .long;
         beyond = drop-set-lt found out n (b + 1) lt ∙ L .beyond;
@@ -89,6 +90,27 @@ module _ (m : List ℕ) where
             let r = L .lists B (omega arith) f l in
             record { count = rw (listed-no b e) (r .count); front = rw (listed-no b e) (take-set-le n out n (b + 1) (omega arith) ∙ r .front) };
       }
+
+    -- where a loop over the blocks up to `to` stands: the first b blocks are listed, and each block passed added at most one word
+    pub record Passed (to b n : ℕ) (out : List ℕ) : Type 0 where
+      pub low : from ≤ b
+      pub high : b ≤ to
+      pub few : n + from ≤ n₀ + b
+      pub part : ListedPart m found from n₀ out₀ b n out
+
+    pub passed-none : (to : ℕ) → from ≤ to → Passed to from n₀ out₀
+    passed-none to le = record { low = omega arith; high = le; few = omega arith; part = part-none }
+
+    -- the loop's next block, by whether it is marked
+    module _ (to b n : ℕ) (out : List ℕ) (P : Passed to b n out) (next : b < to) (lt : n < found) (fit : found ≤ length out₀) where
+      word-fits : n < length out
+      word-fits = omega arith
+
+      pub pass-yes : isMarked m (b + 1) ≡ true → Passed to (b + 1) (n + 1) (set out n (b + 1))
+      pass-yes e = record { low = omega arith; high = omega arith; few = omega arith; part = part-yes b n out (P .part) lt word-fits e }
+
+      pub pass-no : isMarked m (b + 1) ≡ false → Passed to (b + 1) n (set out n (b + 1))
+      pass-no e = record { low = omega arith; high = omega arith; few = omega arith; part = part-no b n out (P .part) lt word-fits e }
 
     -- all are listed
     pub part-full : (b to n : ℕ) (out : List ℕ) → ListedPart m found from n₀ out₀ b n out → b ≤ to → found ≤ n → ListedPart m found from n₀ out₀ to n out

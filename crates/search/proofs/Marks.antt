@@ -13,13 +13,13 @@ use lib.ListN.{length, getD, length-set, length-append}
 use lib.Seq.{getD-set-same, getD-set-other}
 use borrow.Author.Tests.{eqb-false, eq-eqb, ltb-false}
 use Rattle.model.specs.Basics.{pick}
-use Rattle.model.specs.Signature.{bitAt, coversb}
-use Rattle.model.specs.Tables.{widthOf, nextOf, filedOf, leftOf, rightOf, signatureOf}
+use Rattle.model.specs.Signature.{coversb}
+use Rattle.model.specs.Tables.{widthOf, nextOf, filedOf, positionOf, leftOf, rightOf, signatureOf}
 use Rattle.model.specs.Promises.{Matches}
 use Rattle.model.proofs.Picks.{pick-false}
-use Rattle.search.specs.Budget.{Budget, unfit}
+use Rattle.search.specs.Budget.{Budget, unfit, nodeLess, forkLess, Forking}
 use Rattle.search.specs.Marks.{isMarked, mark, listed}
-use Rattle.search.specs.Search.{mayMark, chainStep, chainTwin, leafTwin, testedAt, sidesTwin, nodeTwin, walkTwin}
+use Rattle.search.specs.Search.{mayMark, chainStep, chainTwin, leafTwin, sideAt, rightFirst, inTurn, nodeTwin, walkTwin}
 use Rattle.search.proofs.Keeps.{keep-empty, keep-last}
 
 -- a block that may be marked is not marked, and matches
@@ -106,84 +106,93 @@ module _ (sigs links : List ℕ) (q : ℕ) where
   -- what a step that was lent l may leave
   pub record Went (l : Budget) (m : List ℕ) (o : Budget × List ℕ) : Type 0 where
     pub few-nodes : o .0 .nodes ≤ l .nodes
-    pub few-compares : o .0 .compares ≤ l .compares
+    pub few-forks : o .0 .forks ≤ l .forks
+    pub forking : Forking l → Forking (o .0)
     pub many : ℕ
     pub grown : Grown m (o .1) many
-    pub spent : 1 ≤ o .0 .nodes → many + o .0 .blocks ≡ l .blocks
+    pub spent : 1 ≤ o .0 .forks → many + o .0 .blocks ≡ l .blocks
 
   went-unfit : (l : Budget) (m : List ℕ) → Went l m (unfit, m)
-  went-unfit l m = record { few-nodes = omega arith; few-compares = omega arith; many = 0; grown = grown-none m; spent = λ h. absurd (omega arith) }
+  went-unfit l m = record { few-nodes = omega arith; few-forks = omega arith; forking = λ h. omega arith; many = 0; grown = grown-none m; spent = λ h. absurd (omega arith) }
+
+  went-none : (l : Budget) (m : List ℕ) → Went l m (l, m)
+  went-none l m = record { few-nodes = omega arith; few-forks = omega arith; forking = λ h. h; many = 0; grown = grown-none m; spent = λ h. omega arith }
 
   went-pick : (l : Budget) (m : List ℕ) (t : Bool) (a b : Budget × List ℕ) → Went l m a → Went l m b → Went l m (pick t a b)
   went-pick l m true a b g h = g
   went-pick l m false a b g h = h
 
   -- a chain
-  module _ (n c : ℕ) where
+  module _ (n f : ℕ) where
     abbrev Left : ℕ → Budget
-    Left k = record { nodes = n; compares = c; blocks = k }
+    Left k = record { nodes = n; forks = f; blocks = k }
 
     step-went : (again : ℕ → List ℕ → Budget × List ℕ) (k b next : ℕ) (m : List ℕ) → length sigs ≤ length m
         → ((b : ℕ) (m : List ℕ) → length sigs ≤ length m → Went (Left k) m (again b m))
         → (t u : Bool) → mayMark sigs links q b m ≡ u → Went (Left (suc k)) m (chainStep again t u next (Left (suc k)) b m)
-    step-went again k b next m le ih true u e =
-        record { few-nodes = omega arith; few-compares = omega arith; many = 0; grown = grown-none m; spent = λ h. omega arith }
+    step-went again k b next m le ih true u e = went-none (Left (suc k)) m
     step-went again k b next m le ih false true e =
         let one = grown-mark m b le e in
         let r = ih next (mark m b) (omega (arith, one .long)) in
         record {
           few-nodes = r .few-nodes;
-          few-compares = r .few-compares;
+          few-forks = r .few-forks;
+          forking = r .forking;
           many = 1 + r .many;
           grown = grown-then m _ _ 1 (r .many) one (r .grown);
           spent = λ h. omega (arith, r .spent h);
         }
     step-went again k b next m le ih false false e = went-unfit (Left (suc k)) m
 
-    chain-went : (k b : ℕ) (m : List ℕ) → length sigs ≤ length m → Went (Left k) m (chainTwin sigs links q n c k b m)
+    chain-went : (k b : ℕ) (m : List ℕ) → length sigs ≤ length m → Went (Left k) m (chainTwin sigs links q n f k b m)
     unfolding chainTwin
-    chain-went zero b m le =
-        went-pick (Left 0) m (eqb b 0) _ _
-        (record { few-nodes = omega arith; few-compares = omega arith; many = 0; grown = grown-none m; spent = λ h. omega arith })
-        (went-unfit (Left 0) m)
-    chain-went (suc k) b m le = step-went (chainTwin sigs links q n c k) k b (nextOf links b) m le (chain-went k) (eqb b 0) (mayMark sigs links q b m) refl
+    chain-went zero b m le = went-pick (Left 0) m (eqb b 0) _ _ (went-none (Left 0) m) (went-unfit (Left 0) m)
+    chain-went (suc k) b m le = step-went (chainTwin sigs links q n f k) k b (nextOf links b) m le (chain-went k) (eqb b 0) (mayMark sigs links q b m) refl
 
   leaf-went : (r : ℕ) (l : Budget) (m : List ℕ) → length sigs ≤ length m → Went l m (leafTwin sigs links q r l m)
   unfolding leafTwin
   leaf-went r l m le =
-      let g = chain-went (l .nodes) (l .compares - 1) (l .blocks) r m le in
       went-pick l m (eqb r 0) _ _ (went-unfit l m)
-      (went-pick l m (eqb (l .compares) 0) _ _ (went-unfit l m)
-      (went-pick l m (coversb (widthOf links) (signatureOf sigs r) q) _ _
-      (record { few-nodes = g .few-nodes; few-compares = omega (arith, g .few-compares); many = g .many; grown = g .grown; spent = g .spent })
-      (record { few-nodes = omega arith; few-compares = omega arith; many = 0; grown = grown-none m; spent = λ h. omega arith })))
+      (went-pick l m (coversb (widthOf links) (signatureOf sigs r) q) _ _ (chain-went (l .nodes) (l .forks) (l .blocks) r m le) (went-none l m))
+
+  -- from a budget that has a node less, and maybe a fork
+  went-less : (l l′ : Budget) (m : List ℕ) (o : Budget × List ℕ) → l′ .nodes ≤ l .nodes → l′ .forks ≤ l .forks → (Forking l → Forking l′) → l′ .blocks ≡ l .blocks → Went l′ m o → Went l m o
+  went-less l l′ m o hn hf g e w = record {
+    few-nodes = omega (arith, w .few-nodes);
+    few-forks = omega (arith, w .few-forks);
+    forking = λ h. w .forking (g h);
+    many = w .many;
+    grown = w .grown;
+    spent = λ h. w .spent h ∙ e;
+  }
 
   -- a node, where `again` keeps to its budget
   module _ (again : ℕ → Budget → List ℕ → Budget × List ℕ) (ih : (r : ℕ) (l : Budget) (m : List ℕ) → length sigs ≤ length m → Went l m (again r l m)) where
-    sides-went : (t : Bool) (x y : ℕ) (l : Budget) (m : List ℕ) → length sigs ≤ length m → Went l m (sidesTwin again t x y l m)
-    sides-went true x y l m le = ih y l m le
-    sides-went false x y l m le =
+    turn-went : (x y : ℕ) (l : Budget) (m : List ℕ) → length sigs ≤ length m → Went l m (inTurn again x y l m)
+    turn-went x y l m le =
         let a = again x l m in
         let g = ih x l m le in
         let h = ih y (a .0) (a .1) (omega (arith, g .grown .long)) in
         record {
           few-nodes = omega (arith, g .few-nodes, h .few-nodes);
-          few-compares = omega (arith, g .few-compares, h .few-compares);
+          few-forks = omega (arith, g .few-forks, h .few-forks);
+          forking = λ e. h .forking (g .forking e);
           many = g .many + h .many;
           grown = grown-then m (a .1) _ (g .many) (h .many) (g .grown) (h .grown);
-          spent = λ e. omega (arith, h .spent e, g .spent (omega (arith, h .few-nodes)));
+          spent = λ e. omega (arith, h .spent e, g .spent (omega (arith, h .few-forks)));
         }
 
-    node-went : (B i : ℕ) (l : Budget) (m : List ℕ) → length sigs ≤ length m → Went l m (nodeTwin again links B q i l m)
-    node-went B i l m le =
-        let l′ : Budget = record { nodes = l .nodes - 1; compares = l .compares; blocks = l .blocks } in
-        let g = sides-went (eqb (bitAt (widthOf links) q (testedAt links B i)) 1) (leftOf B links i) (rightOf B links i) l′ m le in
-        went-pick l m (leb (l .nodes) 1) _ _ (went-unfit l m)
-        (went-pick l m (eqb (testedAt links B i) 0) _ _ (went-unfit l m)
-        (record { few-nodes = omega (arith, g .few-nodes); few-compares = g .few-compares; many = g .many; grown = g .grown; spent = g .spent }))
+    node-went : (F B p x y : ℕ) (l : Budget) (m : List ℕ) → length sigs ≤ length m → Went l m (nodeTwin again F B q p x y l m)
+    node-went F B p x y l m le =
+        went-pick l m (eqb (l .nodes) 0) _ _ (went-unfit l m)
+        (went-pick l m (eqb (sideAt F q p) 1) _ _
+        (went-less l (nodeLess l) m _ (omega arith) (omega arith) (λ h. omega arith) refl (ih y (nodeLess l) m le))
+        (went-less l (forkLess l) m _ (omega arith) (omega arith) (λ h. omega arith) refl
+        (went-pick (forkLess l) m (rightFirst B x y) _ _ (turn-went y x (forkLess l) m le) (turn-went x y (forkLess l) m le))))
 
   pub walk-went : (u r : ℕ) (l : Budget) (m : List ℕ) → length sigs ≤ length m → Went l m (walkTwin u sigs links q r l m)
   unfolding walkTwin
   walk-went zero r l m le = went-pick l m (leb r (length sigs)) _ _ (leaf-went r l m le) (went-unfit l m)
   walk-went (suc u) r l m le =
-      went-pick l m (leb r (length sigs)) _ _ (leaf-went r l m le) (node-went (walkTwin u sigs links q) (walk-went u) (length sigs) (r - length sigs) l m le)
+      went-pick l m (leb r (length sigs)) _ _ (leaf-went r l m le)
+      (went-pick l m (leb (length sigs) (r - length sigs)) _ _ (went-unfit l m) (node-went (walkTwin u sigs links q) (walk-went u) (widthOf links) (length sigs) (positionOf (length sigs) links (r - length sigs)) (leftOf (length sigs) links (r - length sigs)) (rightOf (length sigs) links (r - length sigs)) l m le))

@@ -1,194 +1,224 @@
 -- The subtree at a node by the node's word, as the code takes it: what a reference to the node gives, and what its two sides make.
 -- Assumes nothing.
-use Prim.Native.Nat.{ℕ, zero, suc, _-_, _≤_, _<_}
+use Prim.Native.Nat.{ℕ, zero, suc, _+_, _-_, _≤_, _<_}
 use native.Mathlib.Decide.{decLt}
 use native.Mathlib.Omega.{arith}
-use mathlib.Core.Path.{_≡_, refl, sym, _∙_, ap, subst}
+use mathlib.Core.Path.{_≡_, refl, sym, _∙_, ap}
+use mathlib.Core.Logic.{_⊎_, inl, inr}
 use mathlib.Core.Bool.{Bool, true, false}
 use mathlib.Core.List.{List}
-use lib.Dec.{eqb, leb, ltb}
+use lib.Dec.{eqb, ltb}
 use lib.ListN.{length, getD}
-use borrow.Author.Tests.{eq-eqb, ne-eqb, le-leb, lt-leb, lt-ltb, le-ltb, leb-true, ltb-true, ltb-false}
+use borrow.Author.Tests.{eqb-true, eqb-false, ne-eqb, le-leb, lt-leb, le-ltb, ltb-true, ltb-false}
 use Rattle.model.specs.Basics.{pick}
-use Rattle.model.proofs.Picks.{pick-false}
-use Rattle.model.specs.Signature.{bitAt}
-use Rattle.model.specs.Tables.{widthOf, positionOf, leftOf, rightOf}
+use Rattle.model.specs.Tables.{widthOf}
 use Rattle.model.specs.Packed.{positionIn, leftIn, rightIn, unpacked, Packs}
 use Rattle.model.proofs.Packing.{front-word, node-position, node-left, node-right}
-use Rattle.tables.specs.Walk.{EdgeIn}
-use Rattle.search.specs.Budget.{Budget, unfit}
-use Rattle.search.specs.Search.{SizedPacked, leafTwin, testedAt, testedIn, sidesTwin, wordAt, walksLeft, leftTwin, walkTwin, wordTwin}
-use Rattle.search.proofs.Steps.{walk-leaf, walk-spent, walk-no-node}
+use Rattle.search.specs.Budget.{Budget, unfit, nodeLess, forkLess, Forking}
+use Rattle.search.specs.Search.{SizedPacked, leafTwin, sideAt, indexOf, isLeaf, rightFirst, inTurn, nodeTwin, wordAt, walkTwin, wordTwin}
+use Rattle.search.proofs.Steps.{leaf-none, walk-leaf, walk-none, walk-node, node-spent, node-right as goes-right, node-both}
 use Rattle.search.proofs.Rows.{leaf-row}
-use Rattle.search.proofs.Returns.{still-sized}
+use Rattle.search.proofs.Returns.{still-sized, still-forking}
 
--- a reference to no node
-module _ (sigs links : List ℕ) (q r u : ℕ) (l : Budget) (m : List ℕ) (lt : length sigs < r) where
-  none : length sigs ≤ r - length sigs → testedAt links (length sigs) (r - length sigs) ≡ 0
-  unfolding testedAt
-  none h = simp (le-leb _ _ h)
-
-  walk-none : length sigs ≤ r - length sigs → walkTwin u sigs links q r l m ≡ (unfit, m)
-  walk-none h = go (decLt 1 (l .nodes))
+-- a leaf is one of the blocks, and what is none is nothing or above them
+module _ (B r : ℕ) where
+  pub leaf-block : B ≤ 65535 → isLeaf B r ≡ true → (1 ≤ r) × (r ≤ B)
+  leaf-block few e = go (eqb r 0) refl e
     where
-      go : Dec (1 < l .nodes) → walkTwin u sigs links q r l m ≡ (unfit, m)
-      go (yes k) = walk-no-node sigs links q r l m lt u k (none h)
-      go (no k) = walk-spent sigs links q r l m lt u (omega arith)
+      go : (t : Bool) → eqb r 0 ≡ t → ltb (pick t 18446744073709551615 (r - 1)) B ≡ true → (1 ≤ r) × (r ≤ B)
+      go true z h = let k = ltb-true 18446744073709551615 B h in absurd (omega arith)
+      go false z h =
+          let k = ltb-true (r - 1) B h in
+          let n = eqb-false r 0 z in
+          (omega arith, omega arith)
 
--- a reference to a node is its word
-module _ (sigs links nodes : List ℕ) (P : Packs (length sigs) links nodes) (q r w : ℕ) (lt : length sigs < r) (to : r - length sigs < length sigs)
-    (at : w ≡ getD nodes (r - length sigs - 1) 0) (l : Budget) (m : List ℕ) where
-  abbrev i : ℕ
-  i = r - length sigs
+  pub index-above : isLeaf B r ≡ false → B ≤ indexOf r
+  index-above e = ltb-false (indexOf r) B e
 
-  tested-word : testedAt (unpacked links nodes) (length sigs) i ≡ testedIn (widthOf (unpacked links nodes)) w
-  unfolding testedAt testedIn
-  tested-word = simp (lt-leb (length sigs) i to, node-position (length sigs) links nodes P i (omega arith), ← at)
+  pub no-leaf : isLeaf B r ≡ false → (r ≡ 0) ⊎ (B < r)
+  no-leaf e = go (eqb r 0) refl e
+    where
+      go : (t : Bool) → eqb r 0 ≡ t → ltb (pick t 18446744073709551615 (r - 1)) B ≡ false → (r ≡ 0) ⊎ (B < r)
+      go true z h = inl (eqb-true r 0 z)
+      go false z h =
+          let k = ltb-false (r - 1) B h in
+          let n = eqb-false r 0 z in
+          inr (omega arith)
 
-  walk-word : (u : ℕ) → walkTwin u sigs (unpacked links nodes) q r l m ≡ wordTwin u sigs (unpacked links nodes) q w l m
-  unfolding walkTwin wordTwin
-  walk-word zero = simp (lt-leb r (length sigs) lt)
-  walk-word (suc u) =
-      simp (lt-leb r (length sigs) lt, tested-word, node-left (length sigs) links nodes P i (omega arith), node-right (length sigs) links nodes P i (omega arith), ← at)
+pub above-leaf : (B r : ℕ) → B < r → isLeaf B r ≡ false
+above-leaf B r lt =
+    let ne : r ≡ 0 → ⊥ = omega arith in
+    let ge : B ≤ r - 1 = omega arith in
+    rw (ne-eqb r 0 ne) (le-ltb (r - 1) B ge)
 
--- a word that tests no position
-word-zero : (sigs links : List ℕ) (q u : ℕ) (l : Budget) (m : List ℕ) → wordTwin u sigs links q 0 l m ≡ (unfit, m)
-unfolding wordTwin testedIn
-word-zero sigs links q zero l m = refl
-word-zero sigs links q (suc u) l m = go (decLt 1 (l .nodes))
-  where
-    go : Dec (1 < l .nodes) → wordTwin (suc u) sigs links q 0 l m ≡ (unfit, m)
-    go (yes h) = simp (lt-leb _ _ h, le-ltb (widthOf links) 0 (omega arith))
-    go (no h) = let k : l .nodes ≤ 1 = omega arith in simp (le-leb _ _ k)
-
--- a reference above the blocks is the word that is read for it
-module _ (sigs links nodes : List ℕ) (P : Packs (length sigs) links nodes) (q r w : ℕ) (lt : length sigs < r) (at : w ≡ wordAt (length sigs) nodes r) (l : Budget) (m : List ℕ) (u : ℕ) where
-  pub walk-at : walkTwin u sigs (unpacked links nodes) q r l m ≡ wordTwin u sigs (unpacked links nodes) q w l m
+-- the word that is read for a reference r that is no leaf, by the index i of its node
+module _ (B : ℕ) (nodes : List ℕ) (r : ℕ) (none : isLeaf B r ≡ false) (long : (length nodes + 1 ≡ B) × (B ≤ 65535)) (i : ℕ) (e : i ≡ indexOf r) where
+  pub word-none : length nodes ≤ i - B → 0 ≡ wordAt B nodes r
   unfolding wordAt
-  walk-at = go (decLt (r - length sigs) (length sigs))
+  word-none h = go (eqb r 0) refl (no-leaf B r none)
     where
-      go : Dec (r - length sigs < length sigs) → walkTwin u sigs (unpacked links nodes) q r l m ≡ wordTwin u sigs (unpacked links nodes) q w l m
-      go (yes h) = walk-word sigs links nodes P q r w lt h (simp (lt-leb (length sigs) (r - length sigs) h) at at) l m u
-      go (no h) =
-          let k : length sigs ≤ r - length sigs = omega arith in
-          let z : w ≡ 0 = simp (le-leb (length sigs) (r - length sigs) k) at at in
-          walk-none sigs (unpacked links nodes) q r u l m lt k ∙ rw z (sym (word-zero sigs (unpacked links nodes) q u l m))
+      go : (t : Bool) → eqb r 0 ≡ t → (r ≡ 0) ⊎ (B < r) → 0 ≡ wordAt B nodes r
+      go t z (inl d) = let le : r ≤ B = omega arith in simp (le-leb r B le)
+      go true z (inr lt) = let d = eqb-true r 0 z in absurd (omega arith)
+      go false z (inr lt) =
+          let x : i ≡ r - 1 = rw z at e in
+          let k : B ≤ r - B = let a = long .0 in omega arith in
+          simp (lt-leb r B lt, le-leb B (r - B) k)
 
--- the word of a node, one way through it at a time
-module _ (sigs links : List ℕ) (q w : ℕ) (l : Budget) (m : List ℕ) where
-  pub word-out : (u : ℕ) → u ≡ 0 → (unfit, m) ≡ wordTwin u sigs links q w l m
+  pub word-some : i - B < length nodes → getD nodes (i - B) 0 ≡ wordAt B nodes r
+  unfolding wordAt
+  word-some h = go (eqb r 0) refl (no-leaf B r none)
+    where
+      go : (t : Bool) → eqb r 0 ≡ t → (r ≡ 0) ⊎ (B < r) → getD nodes (i - B) 0 ≡ wordAt B nodes r
+      go true z d =
+          let x : i ≡ 18446744073709551615 = rw z at e in
+          let a = long .0 in
+          let b = long .1 in
+          absurd (omega arith)
+      go false z (inl d) = let n = eqb-false r 0 z in absurd (n d)
+      go false z (inr lt) =
+          let x : i ≡ r - 1 = rw z at e in
+          let a = long .0 in
+          let k : r - B < B = omega arith in
+          let j : i - B ≡ r - B - 1 = omega arith in
+          simp (lt-leb r B lt, lt-leb B (r - B) k) (ap (λ (n : ℕ). getD nodes n 0) j)
+
+-- reference 0 leads nowhere, and a node whose sides are 0 neither
+module _ (sigs links : List ℕ) (q : ℕ) where
+  walk-zero : (u : ℕ) (l : Budget) (m : List ℕ) → walkTwin u sigs links q 0 l m ≡ (unfit, m)
+  walk-zero u l m = walk-leaf sigs links q 0 l m u (omega arith) ∙ leaf-none sigs links q 0 l m refl
+
+  turn-zero : (u : ℕ) (l : Budget) (m : List ℕ) → inTurn (walkTwin u sigs links q) 0 0 l m ≡ (unfit, m)
+  turn-zero u l m = rw (walk-zero u l m) (walk-zero u unfit m)
+
+  word-zero : (u : ℕ) (l : Budget) (m : List ℕ) → wordTwin u sigs links q 0 l m ≡ (unfit, m)
   unfolding wordTwin
-  word-out zero e = refl
-  word-out (suc u) e = absurd (omega arith)
+  word-zero zero l m = refl
+  word-zero (suc u) l m = go (eqb (l .nodes) 0) (eqb (sideAt (widthOf links) q 0) 1) (rightFirst (length sigs) 0 0)
+    where
+      go : (a b c : Bool)
+          → pick a (unfit, m) (pick b (walkTwin u sigs links q 0 (nodeLess l) m)
+          (pick c (inTurn (walkTwin u sigs links q) 0 0 (forkLess l) m) (inTurn (walkTwin u sigs links q) 0 0 (forkLess l) m))) ≡ (unfit, m)
+      go true b c = refl
+      go false true c = walk-zero u (nodeLess l) m
+      go false false true = turn-zero u (forkLess l) m
+      go false false false = turn-zero u (forkLess l) m
 
-  pub word-spent : (u : ℕ) → l .nodes ≤ 1 → (unfit, m) ≡ wordTwin u sigs links q w l m
-  unfolding wordTwin
-  word-spent zero h = refl
-  word-spent (suc u) h = simp (le-leb _ _ h)
-
-  -- its side for the query is e
-  module _ (h : 1 < l .nodes) (F e : ℕ) (ef : F ≡ widthOf links) (E : EdgeIn F w q e) where
-    tested-none : 1 < e → testedIn (widthOf links) w ≡ 0
-    unfolding testedIn
-    tested-none g = rw (← ef) (go (decLt F (positionIn w)))
-      where
-        at : positionIn w ≤ F → (p : ℕ) → p ≡ positionIn w → p ≡ 0
-        at k zero d = refl
-        at k (suc p) d = absurd (omega (arith, E .fit (omega arith, k)))
-
-        go : Dec (F < positionIn w) → testedIn F w ≡ 0
-        go (yes d) = simp (lt-ltb _ _ d)
-        go (no d) = let k : positionIn w ≤ F = omega arith in simp (le-ltb _ _ k) (at k _ refl)
-
-    tested-is : e ≤ 1 → testedIn (widthOf links) w ≡ positionIn w
-    unfolding testedIn
-    tested-is g = rw (← ef) (let k = E .node g .1 in simp (le-ltb _ _ k))
-
-    word-none : (u : ℕ) → testedIn (widthOf links) w ≡ 0 → (unfit, m) ≡ wordTwin u sigs links q w l m
-    unfolding wordTwin
-    word-none zero z = refl
-    word-none (suc u) z = simp (lt-leb _ _ h, eq-eqb _ _ z)
-
-    pub word-unfit : (u : ℕ) → 1 < e → (unfit, m) ≡ wordTwin u sigs links q w l m
-    word-unfit u g = word-none u (tested-none g)
-
-    -- l′ is left below it
-    module _ (g : e ≤ 1) (l′ : Budget) (e′ : l′ ≡ record { nodes = l .nodes - 1; compares = l .compares; blocks = l .blocks }) where
-      bit-is : eqb (bitAt (widthOf links) q (positionIn w)) 1 ≡ eqb e 1
-      bit-is = rw (← ef) (ap (λ (x : ℕ). eqb x 1) (sym (E .bit g)))
-
-      word-sides : (u : ℕ) → (u ≡ 0 → ⊥) → (t : Bool) → eqb e 1 ≡ t → wordTwin u sigs links q w l m ≡ sidesTwin (walkTwin (u - 1) sigs links q) t (leftIn w) (rightIn w) l′ m
-      unfolding wordTwin
-      word-sides zero nu t et = absurd (nu refl)
-      word-sides (suc u) nu t et =
-          let d : suc u - 1 ≡ u = omega arith in
-          let k = E .node g .0 in
-          let np : positionIn w ≡ 0 → ⊥ = omega arith in
-          rw (d, e′) (simp (lt-leb _ _ h, tested-is g, ne-eqb _ _ np, bit-is, et))
-
--- Where a walk stands before it visits the sides x and y of a node: u positions are untested and l is left at the node, l′ below it, and
--- e is the query's side.
-pub record AtNode (sigs links nodes : List ℕ) (q w u : ℕ) (l : Budget) (m : List ℕ) (e : ℕ) (l′ : Budget) (x y : ℕ) : Type 0 where
-  pub sized : SizedPacked sigs links nodes m q
-  pub untested : u ≡ 0 → ⊥
-  pub many : 1 < l .nodes
-  pub edge : EdgeIn (widthOf links) w q e
-  pub fit : e ≤ 1
-  pub below : l′ ≡ record { nodes = l .nodes - 1; compares = l .compares; blocks = l .blocks }
-  pub left : x ≡ leftIn w
-  pub right : y ≡ rightIn w
-
-module _ {sigs links nodes : List ℕ} {q w u : ℕ} {l : Budget} {m : List ℕ} {e : ℕ} {l′ : Budget} {x y : ℕ} (A : AtNode sigs links nodes q w u l m e l′ x y) where
+-- a node, by its word
+module _ (sigs links nodes : List ℕ) (P : Packs (length sigs) links nodes) (q : ℕ) (l : Budget) (m : List ℕ) where
   abbrev U : List ℕ
   U = unpacked links nodes
 
-  -- what the left side gives, and what a side does
-  abbrev leftGives : Budget × List ℕ
-  leftGives = leftTwin e l′ m (walkTwin (u - 1) sigs (unpacked links nodes) q x l′ m)
+  width-is : widthOf U ≡ widthOf links
+  width-is = front-word (length sigs) links nodes P 0 (omega arith)
 
+  word-node : (w u : ℕ) → (u ≡ 0 → ⊥) → wordTwin u sigs U q w l m ≡ nodeTwin (walkTwin (u - 1) sigs U q) (widthOf U) (length sigs) q (positionIn w) (leftIn w) (rightIn w) l m
+  unfolding wordTwin
+  word-node w zero nu = absurd (nu refl)
+  word-node w (suc u) nu = let d : suc u - 1 ≡ u = omega arith in rw d
+
+  -- a reference to a node is its word
+  walk-word : (r w u : ℕ) → length sigs < r → r - length sigs < length sigs → w ≡ getD nodes (r - length sigs - 1) 0 → walkTwin u sigs U q r l m ≡ wordTwin u sigs U q w l m
+  unfolding walkTwin wordTwin
+  walk-word r w zero lt to at = simp (lt-leb r (length sigs) lt)
+  walk-word r w (suc u) lt to at =
+      let i : ℕ = r - length sigs in
+      simp (lt-leb r (length sigs) lt, lt-leb (length sigs) i to, node-position (length sigs) links nodes P i (omega arith), node-left (length sigs) links nodes P i (omega arith), node-right (length sigs) links nodes P i (omega arith), ← at)
+
+  -- a reference that is no leaf is the word that is read for it
+  pub walk-at : (r w u : ℕ) → isLeaf (length sigs) r ≡ false → w ≡ wordAt (length sigs) nodes r → walkTwin u sigs (unpacked links nodes) q r l m ≡ wordTwin u sigs (unpacked links nodes) q w l m
+  unfolding wordAt
+  walk-at r w u none at = go (no-leaf (length sigs) r none)
+    where
+      above : length sigs < r → Dec (r - length sigs < length sigs) → walkTwin u sigs U q r l m ≡ wordTwin u sigs U q w l m
+      above lt (yes h) = walk-word r w u lt h (simp (lt-leb r (length sigs) lt, lt-leb (length sigs) (r - length sigs) h) at at)
+      above lt (no h) =
+          let k : length sigs ≤ r - length sigs = omega arith in
+          let z : w ≡ 0 = simp (lt-leb r (length sigs) lt, le-leb (length sigs) (r - length sigs) k) at at in
+          walk-none sigs U q r l m lt u k ∙ rw z (sym (word-zero sigs U q u l m))
+
+      go : (r ≡ 0) ⊎ (length sigs < r) → walkTwin u sigs U q r l m ≡ wordTwin u sigs U q w l m
+      go (inl e) =
+          let le : r ≤ length sigs = omega arith in
+          let z : w ≡ 0 = simp (le-leb r (length sigs) le) at at in
+          rw (e, z) (walk-zero sigs U q u l m ∙ sym (word-zero sigs U q u l m))
+      go (inr lt) = above lt (decLt (r - length sigs) (length sigs))
+
+-- a word with no position untested, and with no node left
+pub word-out : (sigs links : List ℕ) (q w : ℕ) (l : Budget) (m : List ℕ) (u : ℕ) → u ≡ 0 → (unfit, m) ≡ wordTwin u sigs links q w l m
+unfolding wordTwin
+word-out sigs links q w l m zero e = refl
+word-out sigs links q w l m (suc u) e = absurd (omega arith)
+
+pub word-spent : (sigs links : List ℕ) (q w : ℕ) (l : Budget) (m : List ℕ) (u : ℕ) → l .nodes ≡ 0 → (unfit, m) ≡ wordTwin u sigs links q w l m
+unfolding wordTwin
+word-spent sigs links q w l m zero e = refl
+word-spent sigs links q w l m (suc u) e = sym (node-spent (walkTwin u sigs links q) (widthOf links) (length sigs) q (positionIn w) (leftIn w) (rightIn w) l m e)
+
+-- the query's side, with the width as it was handed on
+pub side-read : (F F′ q w : ℕ) (r t : Bool) → F ≡ F′ → r ≡ eqb (sideAt F q (positionIn w)) 1 → r ≡ t → eqb (sideAt F′ q (positionIn w)) 1 ≡ t
+side-read F F′ q w r t e h d = rw (← e) (sym h ∙ d)
+
+-- Where a walk stands before it visits the sides x and y of a node: u positions are untested and l is left.
+pub record AtNode (sigs links nodes : List ℕ) (q w u : ℕ) (l : Budget) (m : List ℕ) (x y : ℕ) : Type 0 where
+  pub sized : SizedPacked sigs links nodes m q
+  pub untested : u ≡ 0 → ⊥
+  pub some : l .nodes ≡ 0 → ⊥
+  pub forking : Forking l
+  pub left : x ≡ leftIn w
+  pub right : y ≡ rightIn w
+
+module _ {sigs links nodes : List ℕ} {q w u : ℕ} {l : Budget} {m : List ℕ} {x y : ℕ} (A : AtNode sigs links nodes q w u l m x y) where
+  -- what a side does
   abbrev gives : ℕ → Budget × List ℕ → Budget × List ℕ
   gives r p = walkTwin (u - 1) sigs (unpacked links nodes) q r (p .0) (p .1)
 
-  sides : (t : Bool) → eqb e 1 ≡ t → wordTwin u sigs U q w l m ≡ sidesTwin (walkTwin (u - 1) sigs U q) t x y l′ m
-  sides t et =
-      rw (A .left, A .right)
-      (word-sides sigs U q w l m (A .many) (widthOf links) e (sym (front-word (length sigs) links nodes (A .sized .packs) 0 (omega arith))) (A .edge) (A .fit) l′ (A .below) u (A .untested) t et)
+  at-word : wordTwin u sigs (unpacked links nodes) q w l m ≡ nodeTwin (walkTwin (u - 1) sigs (unpacked links nodes) q) (widthOf links) (length sigs) q (positionIn w) x y l m
+  at-word = word-node sigs links nodes (A .sized .packs) q l m w u (A .untested) ∙ rw (width-is sigs links nodes (A .sized .packs) q l m, A .left, A .right)
 
-  -- the left side, and then the right one
-  pub both-sides : (p : Budget × List ℕ) → p ≡ leftGives → (o : Budget × List ℕ) → o ≡ gives y p → o ≡ wordTwin u sigs (unpacked links nodes) q w l m
-  both-sides p f o z = z ∙ ap (gives y) f ∙ sym (go (eqb e 1) refl)
-    where
-      go : (t : Bool) → eqb e 1 ≡ t → wordTwin u sigs U q w l m ≡ gives y (pick t (l′, m) (gives x (l′, m)))
-      go true et = sides true et
-      go false et = sides false et
+  -- the right side alone; both, where the left one is a leaf, where none is, and where the right one alone is
+  pub right-alone : eqb (sideAt (widthOf links) q (positionIn w)) 1 ≡ true → (l′ : Budget) → l′ ≡ nodeLess l → (o : Budget × List ℕ) → o ≡ gives y (l′, m)
+      → o ≡ wordTwin u sigs (unpacked links nodes) q w l m
+  right-alone e l′ el o eo =
+      eo ∙ rw el (sym (at-word ∙ goes-right (walkTwin (u - 1) sigs (unpacked links nodes) q) (widthOf links) (length sigs) q (positionIn w) x y l m (A .some) e))
+
+  module _ (e : eqb (sideAt (widthOf links) q (positionIn w)) 1 ≡ false) (l′ : Budget) (el : l′ ≡ forkLess l) (p : Budget × List ℕ) (o : Budget × List ℕ) where
+    in-order : (t : Bool) → rightFirst (length sigs) x y ≡ t
+        → wordTwin u sigs (unpacked links nodes) q w l m ≡ pick t (gives x (gives y (l′, m))) (gives y (gives x (l′, m)))
+    in-order t d =
+        at-word ∙ node-both (walkTwin (u - 1) sigs (unpacked links nodes) q) (widthOf links) (length sigs) q (positionIn w) x y l m (A .some) e ∙ rw (d, el)
+
+    left-first : rightFirst (length sigs) x y ≡ false → p ≡ gives x (l′, m) → o ≡ gives y p → o ≡ wordTwin u sigs (unpacked links nodes) q w l m
+    left-first d ep eo = eo ∙ ap (gives y) ep ∙ sym (in-order false d)
+
+    pub left-leaf : isLeaf (length sigs) x ≡ true → p ≡ gives x (l′, m) → o ≡ gives y p → o ≡ wordTwin u sigs (unpacked links nodes) q w l m
+    left-leaf hx = left-first (rw hx)
+
+    pub no-leaves : isLeaf (length sigs) x ≡ false → isLeaf (length sigs) y ≡ false → p ≡ gives x (l′, m) → o ≡ gives y p → o ≡ wordTwin u sigs (unpacked links nodes) q w l m
+    no-leaves hx hy = left-first (rw (hx, hy))
+
+    pub right-leaf : isLeaf (length sigs) x ≡ false → isLeaf (length sigs) y ≡ true → p ≡ gives y (l′, m) → o ≡ gives x p → o ≡ wordTwin u sigs (unpacked links nodes) q w l m
+    right-leaf hx hy ep eo = let d : rightFirst (length sigs) x y ≡ true = rw (hx, hy) in eo ∙ ap (gives x) ep ∙ sym (in-order true d)
 
   -- a side that is a leaf, and one that is a node
-  pub leaf-gives : (r : ℕ) → leb r (length sigs) ≡ true → (p : Budget × List ℕ) → leafTwin sigs links q r (p .0) (p .1) ≡ gives r p
-  leaf-gives r h p = sym (leaf-row sigs links nodes (A .sized .packs) q r (p .0) (p .1)) ∙ sym (walk-leaf sigs U q r (p .0) (p .1) (u - 1) (leb-true r (length sigs) h))
+  pub leaf-gives : (r : ℕ) → isLeaf (length sigs) r ≡ true → (p : Budget × List ℕ) → leafTwin sigs links q r (p .0) (p .1) ≡ gives r p
+  leaf-gives r h p =
+      let k = leaf-block (length sigs) r (A .sized .sized .few) h in
+      sym (leaf-row sigs links nodes (A .sized .packs) q r (p .0) (p .1)) ∙ sym (walk-leaf sigs (unpacked links nodes) q r (p .0) (p .1) (u - 1) (k .1))
 
-  pub node-gives : (r v : ℕ) → length sigs < r → v ≡ wordAt (length sigs) nodes r → (p : Budget × List ℕ) → wordTwin (u - 1) sigs (unpacked links nodes) q v (p .0) (p .1) ≡ gives r p
-  node-gives r v h d p = sym (walk-at sigs links nodes (A .sized .packs) q r v h d (p .0) (p .1) (u - 1))
+  pub node-gives : (r v : ℕ) → isLeaf (length sigs) r ≡ false → v ≡ wordAt (length sigs) nodes r → (p : Budget × List ℕ) → wordTwin (u - 1) sigs (unpacked links nodes) q v (p .0) (p .1) ≡ gives r p
+  node-gives r v h d p = sym (walk-at sigs links nodes (A .sized .packs) q (p .0) (p .1) r v (u - 1) h d)
 
-  -- the left side where it is walked, and where it is not
-  pub walks-above : walksLeft (length sigs) e x ≡ true → length sigs < x
-  walks-above h = ltb-true (length sigs) x (pick-false (eqb e 1) (ltb (length sigs) x) h .1)
+  -- what stands after a side
+  pub sized-after : (r : ℕ) (l′ a : Budget) (m₁ : List ℕ) → (a, m₁) ≡ gives r (l′, m) → SizedPacked sigs links nodes m₁ q
+  sized-after r l′ a m₁ e = still-sized sigs links nodes q (u - 1) r l′ a m m₁ (A .sized) e
 
-  pub left-walked : walksLeft (length sigs) e x ≡ true → (v : ℕ) → v ≡ wordAt (length sigs) nodes x → wordTwin (u - 1) sigs (unpacked links nodes) q v l′ m ≡ leftGives
-  left-walked h v d = rw (pick-false (eqb e 1) (ltb (length sigs) x) h .0) (node-gives x v (walks-above h) d (l′, m))
+  pub forking-after : (r : ℕ) (l′ a : Budget) (m₁ : List ℕ) → Forking l′ → (a, m₁) ≡ gives r (l′, m) → Forking a
+  forking-after r l′ a m₁ h e = still-forking sigs links nodes q (u - 1) r l′ a m m₁ (A .sized) h e
 
-  pub left-leafed : walksLeft (length sigs) e x ≡ false → leftTwin e l′ m (leafTwin sigs links q x l′ m) ≡ leftGives
-  left-leafed h = go (eqb e 1) refl
-    where
-      go : (t : Bool) → eqb e 1 ≡ t → leftTwin e l′ m (leafTwin sigs links q x l′ m) ≡ leftGives
-      go true et = rw et
-      go false et =
-          let k : ltb (length sigs) x ≡ false = rw et at h in
-          rw et (leaf-gives x (le-leb x (length sigs) (ltb-false (length sigs) x k)) (l′, m))
+  -- and below the node
+  pub node-below : (l′ : Budget) → l′ ≡ nodeLess l → Forking l′
+  node-below l′ e = rw e (omega (arith, A .forking))
 
-  -- the marks are as long after the left side
-  pub sized-after : (a : Budget) (m₁ : List ℕ) → (a, m₁) ≡ leftGives → SizedPacked sigs links nodes m₁ q
-  sized-after a m₁ f = go (eqb e 1) refl
-    where
-      go : (t : Bool) → eqb e 1 ≡ t → SizedPacked sigs links nodes m₁ q
-      go true et = let g : _≡_ {A = Budget × List ℕ} (a, m₁) (l′, m) = rw et at f in subst (λ (z : List ℕ). SizedPacked sigs links nodes z q) (sym (ap (λ (o : Budget × List ℕ). o .1) g)) (A .sized)
-      go false et = still-sized sigs links nodes q (u - 1) x l′ a m m₁ (A .sized) (rw et at f)
+  pub fork-below : (l′ : Budget) → l′ ≡ forkLess l → Forking l′
+  fork-below l′ e = rw e (omega (arith, A .forking))

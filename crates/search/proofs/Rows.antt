@@ -58,13 +58,13 @@ module _ (sigs links nodes : List ℕ) (P : Packs (length sigs) links nodes) (q 
       go (no n) = omega arith
       go (yes h) = true-false e (stop h)
 
-  chain-row : (n c k b : ℕ) (m : List ℕ) → chainTwin sigs U q n c k b m ≡ chainTwin sigs links q n c k b m
+  chain-row : (n f k b : ℕ) (m : List ℕ) → chainTwin sigs U q n f k b m ≡ chainTwin sigs links q n f k b m
   unfolding chainTwin
-  chain-row n c zero b m = refl
-  chain-row n c (suc k) b m =
+  chain-row n f zero b m = refl
+  chain-row n f (suc k) b m =
       rw (may-row b m)
-      (step-same (chainTwin sigs U q n c k) (chainTwin sigs links q n c k) (eqb b 0) (mayMark sigs links q b m) (nextOf U b) (nextOf links b) (record { nodes = n; compares = c; blocks = suc k }) b m
-      (λ e. chain-row n c k (nextOf U b) (mark m b) ∙ ap (λ (x : ℕ). chainTwin sigs links q n c k x (mark m b)) (next-row b (may-block b m e))))
+      (step-same (chainTwin sigs U q n f k) (chainTwin sigs links q n f k) (eqb b 0) (mayMark sigs links q b m) (nextOf U b) (nextOf links b) (record { nodes = n; forks = f; blocks = suc k }) b m
+      (λ e. chain-row n f k (nextOf U b) (mark m b) ∙ ap (λ (x : ℕ). chainTwin sigs links q n f k x (mark m b)) (next-row b (may-block b m e))))
 
   pub leaf-row : (r : ℕ) (l : Budget) (m : List ℕ) → leafTwin sigs (unpacked links nodes) q r l m ≡ leafTwin sigs links q r l m
   unfolding leafTwin

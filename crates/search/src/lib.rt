@@ -108,7 +108,7 @@ fn find<'b>(
         links[0],
         budget::lend(blocks),
     );
-    if budget::nodes_in(left) == 0 {
+    if budget::forks_in(left) == 0 {
         return no_list(UNSOUND);
     }
     let found = used(blocks, budget::blocks_in(left));
@@ -116,8 +116,8 @@ fn find<'b>(
     Report {
         answer: 0,
         found: found,
-        compares: used(blocks, budget::compares_in(left)),
-        bits: used(blocks, budget::nodes_in(left)),
+        compares: used(blocks, budget::forks_in(left)) + 1,
+        bits: used(blocks - 1, budget::nodes_in(left)),
     }
 }
 

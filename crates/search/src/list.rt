@@ -35,6 +35,31 @@ pub fn list_blocks(
     n
 }
 
+// The same of 64 blocks, where at least 64 more are to be listed: fewer than `found` are listed before each of the blocks. So the count is
+// not tested, and a run with many marks is listed with no branch but the loop's own. (`found` is there for the contract.)
+pub fn list_whole_run(
+    marks: &[u8],
+    output: &mut [u32],
+    from: usize,
+    listed: usize,
+    found: usize,
+) -> usize
+    requires { ⌜ (from + 64 ≤ 65535) × (from + 64 ≤ length (now marks)) × (listed + 64 ≤ found) × (found ≤ length (now output)) ⌝ }
+    ensures { λ r. ⌜ ListedPart (now (marks .entry)) found from listed (now (output .entry)) (from + 64) r (now (output .exit)) ⌝ }
+{
+    let to = from + marking::RUN;
+    let mut n = listed;
+    let mut block = from;
+    while block < to {
+        block += 1;
+        output[n] = block as u32;
+        if marking::is_marked(marks, block) {
+            n += 1;
+        }
+    }
+    n
+}
+
 // The same of 64 blocks, where none of them is looked at by itself if none is marked.
 pub fn list_run(marks: &[u8], output: &mut [u32], from: usize, listed: usize, found: usize) -> usize
     requires { ⌜ (from + 64 ≤ 65535) × (from + 64 ≤ length (now marks)) × (found ≤ length (now output)) ⌝ }
@@ -42,6 +67,9 @@ pub fn list_run(marks: &[u8], output: &mut [u32], from: usize, listed: usize, fo
 {
     if marking::none_marked(marks, from) {
         return listed;
+    }
+    if listed <= found && marking::RUN <= found - listed {
+        return list_whole_run(marks, output, from, listed, found);
     }
     list_blocks(marks, output, from, from + marking::RUN, listed, found)
 }

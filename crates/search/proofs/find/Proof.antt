@@ -1,11 +1,12 @@
 -- `search::find` meets its contract: each return is a case of `foundTwin`, and the walk leaves no more than it was lent.
 -- Assumes nothing.
 use borrow.Author.Needs.{needs}
-use mathlib.Core.Path.{sym, _∙_}
+use Prim.Native.Nat.{ℕ, _+_}
+use mathlib.Core.Path.{refl, sym, _∙_, ap}
 use native.Mathlib.Omega.{arith}
 use Rattle.model.specs.Packed.{unpacked}
 use Rattle.model.proofs.Packing.{front-word}
-use Rattle.search.proofs.Returns.{walked-rows, find-empty, find-unfit, find-list, walk-few, walk-found, used-read, report-same}
+use Rattle.search.proofs.Returns.{walked-rows, find-empty, find-unfit, find-list, lent-forking, walk-few, walk-found, used-read, report-same}
 use Rattle.search.proofs.find.Statement.{statement}
 use Rattle.search.proofs.find.Tie as tie
 
@@ -36,15 +37,20 @@ shared-slice-read-walk-tree c =
     omega (arith, entry .pre .0 .packs .rows-long)
 
 lend-requires : tie.Need-lend-requires
-lend-requires c κs = search needs
+lend-requires c κs =
+    let entry = c .before .before .before .before .before .before .before .before .before .before .before .before .before in
+    let p = entry .pre in
+    (p .1 .0, p .0 .sized .few)
 
 walk-tree-requires : tie.Need-walk-tree-requires
 walk-tree-requires c κs =
-    let entry = c .before .before .before .before .before .before .before .before .before .before .before .before .before .before in
-    let p = entry .pre .0 in record { sized = search needs; packs = p .packs }
+    let at-if1 = c .before .before .before in
+    let entry = at-if1 .before .before .before .before .before .before .before .before .before .before .before in
+    let p = entry .pre .0 in
+    (record { sized = search needs; packs = p .packs }, (omega (arith, at-if1 .if1 .left), refl, lent-forking _ _ (c .lend .ensures)))
 
-nodes-in-requires : tie.Need-nodes-in-requires
-nodes-in-requires c κs = search needs
+forks-in-requires : tie.Need-forks-in-requires
+forks-in-requires c κs = search needs
 
 no-list-requires-2 : tie.Need-no-list-requires-2
 no-list-requires-2 c κs = search needs
@@ -55,13 +61,13 @@ same-length-2 c = search needs
 returns-2 : tie.Need-returns-2
 returns-2 c =
     let at-if2 = c .before in
-    let at-nodes-in = at-if2 .before in
-    let at-walk-tree = at-nodes-in .before .before .before in
+    let at-forks-in = at-if2 .before in
+    let at-walk-tree = at-forks-in .before .before .before in
     let at-lend = at-walk-tree .before in
     let at-if1 = at-lend .before .before .before in
     let at-clear-marks = at-if1 .before .before .before .before in
     let entry = at-clear-marks .before .before .before .before .before .before .before in
-    find-unfit _ _ _ _ _ _ (at-clear-marks .clear-marks .ensures) _ _ (at-lend .lend .ensures) _ _ (walked-rows _ _ _ (entry .pre .0 .packs) _ _ _ _ (at-walk-tree .walk-tree .ensures)) (c .no-list2 .ensures) (λ z. at-if1 .if1 .left (sym (front-word _ _ _ (entry .pre .0 .packs) 2 (omega arith)) ∙ z)) (sym (at-nodes-in .nodes-in .ensures) ∙ at-if2 .if2 .taken)
+    find-unfit _ _ _ _ _ _ (at-clear-marks .clear-marks .ensures) _ _ (at-lend .lend .ensures) _ _ (walked-rows _ _ _ (entry .pre .0 .packs) _ _ _ _ (at-walk-tree .walk-tree .ensures)) (c .no-list2 .ensures) (λ z. at-if1 .if1 .left (sym (front-word _ _ _ (entry .pre .0 .packs) 2 (omega arith)) ∙ z)) (sym (at-forks-in .forks-in .ensures) ∙ at-if2 .if2 .taken)
 
 blocks-in-requires : tie.Need-blocks-in-requires
 blocks-in-requires c κs = search needs
@@ -69,13 +75,13 @@ blocks-in-requires c κs = search needs
 used-requires : tie.Need-used-requires
 used-requires c κs =
     let at-if2 = c .before in
-    let at-nodes-in = at-if2 .before in
-    let at-walk-tree = at-nodes-in .before .before .before in
+    let at-forks-in = at-if2 .before in
+    let at-walk-tree = at-forks-in .before .before .before in
     let at-lend = at-walk-tree .before in
     let at-clear-marks = at-lend .before .before .before .before .before .before .before in
     let entry = at-clear-marks .before .before .before .before .before .before .before in
     let a = entry .args in
-    let f = walk-found (a .signatures .now) (unpacked (a .links .now) (a .nodes .now)) (a .query) (a .marks .now) _ (at-clear-marks .clear-marks .ensures) _ (at-lend .lend .ensures) _ _ (walked-rows _ _ _ (entry .pre .0 .packs) _ _ _ _ (at-walk-tree .walk-tree .ensures)) (entry .pre .0 .sized .room) (λ z. at-if2 .if2 .left (at-nodes-in .nodes-in .ensures ∙ z)) in
+    let f = walk-found (a .signatures .now) (unpacked (a .links .now) (a .nodes .now)) (a .query) (a .marks .now) _ (at-clear-marks .clear-marks .ensures) _ (at-lend .lend .ensures) _ _ (walked-rows _ _ _ (entry .pre .0 .packs) _ _ _ _ (at-walk-tree .walk-tree .ensures)) (entry .pre .0 .sized .room) (λ z. at-if2 .if2 .left (at-forks-in .forks-in .ensures ∙ z)) in
     omega (arith, f .0, c .blocks-in .ensures, entry .pre .0 .sized .few)
 
 cast-list-marked : tie.Need-cast-list-marked
@@ -86,18 +92,18 @@ list-marked-requires c κs =
     let at-used = c .before .before in
     let at-blocks-in = at-used .before in
     let at-if2 = at-blocks-in .before in
-    let at-nodes-in = at-if2 .before in
-    let at-walk-tree = at-nodes-in .before .before .before in
+    let at-forks-in = at-if2 .before in
+    let at-walk-tree = at-forks-in .before .before .before in
     let at-lend = at-walk-tree .before in
     let at-clear-marks = at-lend .before .before .before .before .before .before .before in
     let entry = at-clear-marks .before .before .before .before .before .before .before in
     let a = entry .args in
-    let f = walk-found (a .signatures .now) (unpacked (a .links .now) (a .nodes .now)) (a .query) (a .marks .now) _ (at-clear-marks .clear-marks .ensures) _ (at-lend .lend .ensures) _ _ (walked-rows _ _ _ (entry .pre .0 .packs) _ _ _ _ (at-walk-tree .walk-tree .ensures)) (entry .pre .0 .sized .room) (λ z. at-if2 .if2 .left (at-nodes-in .nodes-in .ensures ∙ z)) in
+    let f = walk-found (a .signatures .now) (unpacked (a .links .now) (a .nodes .now)) (a .query) (a .marks .now) _ (at-clear-marks .clear-marks .ensures) _ (at-lend .lend .ensures) _ _ (walked-rows _ _ _ (entry .pre .0 .packs) _ _ _ _ (at-walk-tree .walk-tree .ensures)) (entry .pre .0 .sized .room) (λ z. at-if2 .if2 .left (at-forks-in .forks-in .ensures ∙ z)) in
     let e = used-read _ _ _ _ (at-used .used .ensures) (at-blocks-in .blocks-in .ensures) in
     (search needs, search needs, omega (arith, e, entry .pre .1 .1), e ∙ f .1)
 
-compares-in-requires : tie.Need-compares-in-requires
-compares-in-requires c κs = search needs
+forks-in-requires-2 : tie.Need-forks-in-requires-2
+forks-in-requires-2 c κs = search needs
 
 used-requires-2 : tie.Need-used-requires-2
 used-requires-2 c κs =
@@ -107,10 +113,20 @@ used-requires-2 c κs =
     let entry = at-clear-marks .before .before .before .before .before .before .before in
     let a = entry .args in
     let f = walk-few (a .signatures .now) (unpacked (a .links .now) (a .nodes .now)) (a .query) (a .marks .now) _ (at-clear-marks .clear-marks .ensures) _ (at-lend .lend .ensures) _ _ (walked-rows _ _ _ (entry .pre .0 .packs) _ _ _ _ (at-walk-tree .walk-tree .ensures)) (entry .pre .0 .sized .room) in
-    omega (arith, f .1, c .compares-in .ensures, entry .pre .0 .sized .few)
+    omega (arith, f .1, c .forks-in2 .ensures, entry .pre .0 .sized .few)
 
-nodes-in-requires-2 : tie.Need-nodes-in-requires-2
-nodes-in-requires-2 c κs = search needs
+add-t26 : tie.Need-add-t26
+add-t26 c =
+    let entry = c .before .before .before .before .before .before .before .before .before .before .before .before .before .before .before .before .before .before .before .before .before .before .before .before .before .before .before .before in
+    omega (arith, c .used2 .ensures, entry .pre .0 .sized .few)
+
+sub-used : tie.Need-sub-used
+sub-used c =
+    let entry = c .before .before .before .before .before .before .before .before .before .before .before .before .before .before .before .before .before .before .before .before .before .before .before .before .before .before .before .before in
+    entry .pre .1 .0
+
+nodes-in-requires : tie.Need-nodes-in-requires
+nodes-in-requires c κs = search needs
 
 used-requires-3 : tie.Need-used-requires-3
 used-requires-3 c κs =
@@ -120,7 +136,7 @@ used-requires-3 c κs =
     let entry = at-clear-marks .before .before .before .before .before .before .before in
     let a = entry .args in
     let f = walk-few (a .signatures .now) (unpacked (a .links .now) (a .nodes .now)) (a .query) (a .marks .now) _ (at-clear-marks .clear-marks .ensures) _ (at-lend .lend .ensures) _ _ (walked-rows _ _ _ (entry .pre .0 .packs) _ _ _ _ (at-walk-tree .walk-tree .ensures)) (entry .pre .0 .sized .room) in
-    omega (arith, f .0, c .nodes-in2 .ensures, entry .pre .0 .sized .few)
+    omega (arith, f .0, c .nodes-in .ensures, entry .pre .0 .sized .few)
 
 same-length-3 : tie.Need-same-length-3
 same-length-3 c = search needs
@@ -130,21 +146,21 @@ same-length-4 c = search needs
 
 returns-3 : tie.Need-returns-3
 returns-3 c =
-    let at-nodes-in2 = c .before in
-    let at-used2 = at-nodes-in2 .before in
-    let at-compares-in = at-used2 .before in
-    let at-list-marked = at-compares-in .before .before .before in
+    let at-nodes-in = c .before in
+    let at-used2 = at-nodes-in .before in
+    let at-forks-in2 = at-used2 .before in
+    let at-list-marked = at-forks-in2 .before .before .before in
     let at-used = at-list-marked .before .before .before in
     let at-blocks-in = at-used .before in
     let at-if2 = at-blocks-in .before in
-    let at-nodes-in = at-if2 .before in
-    let at-walk-tree = at-nodes-in .before .before .before in
+    let at-forks-in = at-if2 .before in
+    let at-walk-tree = at-forks-in .before .before .before in
     let at-lend = at-walk-tree .before in
     let at-if1 = at-lend .before .before .before in
     let at-clear-marks = at-if1 .before .before .before .before in
     let entry = at-clear-marks .before .before .before .before .before .before .before in
-    let r = report-same _ _ _ _ _ _ (used-read _ _ _ _ (at-used .used .ensures) (at-blocks-in .blocks-in .ensures)) (used-read _ _ _ _ (at-used2 .used2 .ensures) (at-compares-in .compares-in .ensures)) (used-read _ _ _ _ (c .used3 .ensures) (at-nodes-in2 .nodes-in2 .ensures)) in
-    find-list _ _ _ _ _ _ (at-clear-marks .clear-marks .ensures) _ _ (at-lend .lend .ensures) _ _ (walked-rows _ _ _ (entry .pre .0 .packs) _ _ _ _ (at-walk-tree .walk-tree .ensures)) (λ z. at-if1 .if1 .left (sym (front-word _ _ _ (entry .pre .0 .packs) 2 (omega arith)) ∙ z)) (λ z. at-if2 .if2 .left (at-nodes-in .nodes-in .ensures ∙ z)) r _ (at-list-marked .list-marked .ensures)
+    let r = report-same _ _ _ _ _ _ (used-read _ _ _ _ (at-used .used .ensures) (at-blocks-in .blocks-in .ensures)) (ap (λ (n : ℕ). n + 1) (used-read _ _ _ _ (at-used2 .used2 .ensures) (at-forks-in2 .forks-in2 .ensures))) (used-read _ _ _ _ (c .used3 .ensures) (at-nodes-in .nodes-in .ensures)) in
+    find-list _ _ _ _ _ _ (at-clear-marks .clear-marks .ensures) _ _ (at-lend .lend .ensures) _ _ (walked-rows _ _ _ (entry .pre .0 .packs) _ _ _ _ (at-walk-tree .walk-tree .ensures)) (λ z. at-if1 .if1 .left (sym (front-word _ _ _ (entry .pre .0 .packs) 2 (omega arith)) ∙ z)) (λ z. at-if2 .if2 .left (at-forks-in .forks-in .ensures ∙ z)) r _ (at-list-marked .list-marked .ensures)
 
 pub find-spec : {M : Type 1} → statement M
 find-spec =
@@ -158,7 +174,7 @@ find-spec =
     shared-slice-read-walk-tree
     lend-requires
     walk-tree-requires
-    nodes-in-requires
+    forks-in-requires
     no-list-requires-2
     same-length-2
     returns-2
@@ -166,9 +182,11 @@ find-spec =
     used-requires
     cast-list-marked
     list-marked-requires
-    compares-in-requires
+    forks-in-requires-2
     used-requires-2
-    nodes-in-requires-2
+    add-t26
+    sub-used
+    nodes-in-requires
     used-requires-3
     same-length-3
     same-length-4

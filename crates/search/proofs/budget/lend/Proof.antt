@@ -1,4 +1,4 @@
--- `search::budget::lend` meets its contract: each count of the product is the number of blocks.
+-- `search::budget::lend` meets its contract: each count of the product is the number of blocks, and a node is taken off.
 -- Assumes nothing.
 use borrow.Author.Needs.{needs}
 use native.Mathlib.Omega.{arith}
@@ -15,8 +15,11 @@ add-result-2 c = search needs
 mul-result : tie.Need-mul-result
 mul-result c = search needs
 
+sub-result : tie.Need-sub-result
+sub-result c = search needs
+
 returns : tie.Need-returns
-returns c = lent-is (c .args .blocks) (omega arith)
+returns c = lent-is (c .args .blocks) (c .pre .0) (omega arith)
 
 pub lend-spec : {M : Type 1} → statement M
 lend-spec =
@@ -25,4 +28,5 @@ lend-spec =
     add-result
     add-result-2
     mul-result
+    sub-result
     returns)

@@ -2,27 +2,26 @@
 -- Assumes nothing.
 use borrow.Author.Needs.{needs}
 use mathlib.Core.Path.{_≡_, sym, _∙_}
-use Prim.Native.Nat.{_-_, _≤_}
+use Prim.Native.Nat.{_-_}
 use native.Mathlib.Omega.{arith}
-use Rattle.search.specs.Marks.{ListedPart}
-use Rattle.search.proofs.Listings.{part-none, part-yes, part-no, part-full}
+use Rattle.search.proofs.Listings.{part-full, Passed, passed-none, pass-yes, pass-no}
 use Rattle.search.proofs.list.list_blocks.Statement.{statement}
 use Rattle.search.proofs.list.list_blocks.Tie as tie
 
 abbrev Inv-loop : tie.InvT-loop
-Inv-loop marks output₀ from to listed found n₀ block₀ output n block = (from ≤ block) × (block ≤ to) × ListedPart marks found from listed output₀ block n output
+Inv-loop marks output₀ from to listed found n₀ block₀ output n block = Passed marks found from listed output₀ to block n output
 
 abbrev μ-loop : tie.MeasureT-loop
 μ-loop marks output₀ from to listed found n₀ block₀ output n block = to - block
 
 loop-holds : tie.Need-loop-holds Inv-loop μ-loop
-loop-holds c = (search needs, search needs, part-none _ _ _ _ _)
+loop-holds c = passed-none _ _ _ _ _ _ (omega arith)
 
 same-length : tie.Need-same-length Inv-loop μ-loop
-same-length c = c .before .before .loop .inv .2 .long
+same-length c = c .before .before .loop .inv .part .long
 
 returns : tie.Need-returns Inv-loop μ-loop
-returns c = part-full _ _ _ _ _ _ _ _ _ (c .before .before .loop .inv .2) (c .before .before .loop .inv .1) (c .if1 .taken)
+returns c = let now = c .before .before .loop .inv in part-full _ _ _ _ _ _ _ _ _ (now .part) (now .high) (c .if1 .taken)
 
 add-block : tie.Need-add-block Inv-loop μ-loop
 add-block c = search needs
@@ -34,10 +33,7 @@ mul-output : tie.Need-mul-output Inv-loop μ-loop
 mul-output c = search needs
 
 slice-write-output : tie.Need-slice-write-output Inv-loop μ-loop
-slice-write-output c =
-    let at-loop = c .before .before in
-    let entry = at-loop .before .before .before in
-    omega (arith, c .if1 .left, at-loop .loop .inv .2 .long, entry .pre)
+slice-write-output c = search needs
 
 is-marked-requires : tie.Need-is-marked-requires Inv-loop μ-loop
 is-marked-requires c κs = search needs
@@ -51,10 +47,9 @@ loop-less c = search needs
 loop-again : tie.Need-loop-again Inv-loop μ-loop
 loop-again c =
     let at-is-marked = c .before in
-    let at-if1 = at-is-marked .before in
-    let at-loop = at-if1 .before .before in
+    let at-loop = at-is-marked .before .before .before in
     let entry = at-loop .before .before .before in
-    (omega arith, omega arith, part-yes _ _ _ _ _ _ _ _ (at-loop .loop .inv .2) (omega (arith, at-if1 .if1 .left)) (omega (arith, at-if1 .if1 .left, at-loop .loop .inv .2 .long, entry .pre)) (sym (at-is-marked .is-marked .ensures) ∙ c .if2 .taken))
+    pass-yes _ _ _ _ _ _ _ _ _ (at-loop .loop .inv) (omega arith) (omega arith) (entry .pre .3) (sym (at-is-marked .is-marked .ensures) ∙ c .if2 .taken)
 
 loop-less-2 : tie.Need-loop-less-2 Inv-loop μ-loop
 loop-less-2 c = search needs
@@ -62,19 +57,18 @@ loop-less-2 c = search needs
 loop-again-2 : tie.Need-loop-again-2 Inv-loop μ-loop
 loop-again-2 c =
     let at-is-marked = c .before in
-    let at-if1 = at-is-marked .before in
-    let at-loop = at-if1 .before .before in
+    let at-loop = at-is-marked .before .before .before in
     let entry = at-loop .before .before .before in
-    (omega arith, omega arith, part-no _ _ _ _ _ _ _ _ (at-loop .loop .inv .2) (omega (arith, at-if1 .if1 .left)) (omega (arith, at-if1 .if1 .left, at-loop .loop .inv .2 .long, entry .pre)) (sym (at-is-marked .is-marked .ensures) ∙ c .if2 .left))
+    pass-no _ _ _ _ _ _ _ _ _ (at-loop .loop .inv) (omega arith) (omega arith) (entry .pre .3) (sym (at-is-marked .is-marked .ensures) ∙ c .if2 .left)
 
 same-length-2 : tie.Need-same-length-2 Inv-loop μ-loop
-same-length-2 c = c .before .loop .inv .2 .long
+same-length-2 c = c .before .loop .inv .part .long
 
 returns-2 : tie.Need-returns-2 Inv-loop μ-loop
 returns-2 c =
     let l = c .before .loop in
     let e : l .block ≡ c .before .before .before .before .args .to = omega arith in
-    rw (← e) (l .inv .2)
+    rw (← e) (l .inv .part)
 
 pub list-blocks-spec : {M : Type 1} → statement M
 list-blocks-spec =

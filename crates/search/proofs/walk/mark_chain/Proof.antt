@@ -14,7 +14,7 @@ use Rattle.search.proofs.walk.mark_chain.Statement.{statement}
 use Rattle.search.proofs.walk.mark_chain.Tie as tie
 
 abbrev Inv-loop : tie.InvT-loop
-Inv-loop signatures links marks₀ query head left block₀ rest₀ marks block rest = (length marks ≡ length marks₀) × (chainTwin signatures links query (budgetOf left .nodes) (budgetOf left .compares) (budgetOf left .blocks) head marks₀ ≡ chainTwin signatures links query (budgetOf rest .nodes) (budgetOf rest .compares) (budgetOf rest .blocks) block marks)
+Inv-loop signatures links marks₀ query head left block₀ rest₀ marks block rest = (length marks ≡ length marks₀) × (chainTwin signatures links query (budgetOf left .nodes) (budgetOf left .forks) (budgetOf left .blocks) head marks₀ ≡ chainTwin signatures links query (budgetOf rest .nodes) (budgetOf rest .forks) (budgetOf rest .blocks) block marks)
 
 abbrev μ-loop : tie.MeasureT-loop
 μ-loop signatures links marks₀ query head left block₀ rest₀ marks block rest = budgetOf rest .blocks

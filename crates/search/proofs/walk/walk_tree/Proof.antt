@@ -13,7 +13,7 @@ leaf-requires : tie.Need-leaf-requires
 leaf-requires c κs =
     let at-if1 = c .before in
     let entry = at-if1 .before .before .before .before .before in
-    (entry .pre .sized, at-if1 .if1 .taken)
+    (entry .pre .0 .sized, (entry .pre .1 .0, at-if1 .if1 .taken))
 
 same-length : tie.Need-same-length
 same-length c = search needs
@@ -23,13 +23,13 @@ returns c =
     let at-leaf = c .before .before in
     let at-if1 = at-leaf .before .before in
     let entry = at-if1 .before .before .before .before .before in
-    at-leaf .leaf .ensures ∙ sym (leaf-row _ _ _ (entry .pre .packs) _ _ _ _) ∙ sym (walk-leaf _ _ _ _ _ _ _ (at-if1 .if1 .taken))
+    at-leaf .leaf .ensures ∙ sym (leaf-row _ _ _ (entry .pre .0 .packs) _ _ _ _) ∙ sym (walk-leaf _ _ _ _ _ _ _ (at-if1 .if1 .taken))
 
 walk-root-requires : tie.Need-walk-root-requires
 walk-root-requires c κs =
     let at-if1 = c .before .before in
     let entry = at-if1 .before .before .before .before .before in
-    (entry .pre, at-if1 .if1 .left)
+    (entry .pre .0, (at-if1 .if1 .left, entry .pre .1 .1, entry .pre .1 .2))
 
 same-length-2 : tie.Need-same-length-2
 same-length-2 c = search needs
