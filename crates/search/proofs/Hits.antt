@@ -1,7 +1,7 @@
 -- The blocks that a search of a sound shape marks: those of its chains that cover the query, none twice, and no more than B. A block
 -- left of a node whose position is set in the query has a 0 there, so it does not cover: going right only loses nothing.
 -- Assumes nothing.
-use Prim.Native.Nat.{ℕ, suc, _+_, _≤_}
+use Prim.Native.Nat.{ℕ, suc, _≤_}
 use native.Mathlib.Omega.{arith}
 use mathlib.Core.Path.{_≡_, refl, sym, _∙_, ap, subst}
 use mathlib.Core.Logic.{_⊎_, inl, inr, ⊎-elim}

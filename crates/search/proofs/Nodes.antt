@@ -16,7 +16,7 @@ use Rattle.model.specs.Packed.{positionIn, leftIn, rightIn, unpacked, Packs}
 use Rattle.model.proofs.Packing.{front-word, node-position, node-left, node-right}
 use Rattle.search.specs.Budget.{Budget, unfit, nodeLess, forkLess, Forking}
 use Rattle.search.specs.Search.{SizedPacked, leafTwin, sideAt, indexOf, isLeaf, rightFirst, inTurn, nodeTwin, wordAt, walkTwin, wordTwin}
-use Rattle.search.proofs.Steps.{leaf-none, walk-leaf, walk-none, walk-node, node-spent, node-right as goes-right, node-both}
+use Rattle.search.proofs.Steps.{leaf-none, walk-leaf, walk-none, node-spent, node-right as goes-right, node-both}
 use Rattle.search.proofs.Rows.{leaf-row}
 use Rattle.search.proofs.Returns.{still-sized, still-forking}
 

@@ -1,8 +1,7 @@
 -- `search::walk::goes_right` meets its contract: the shift is by less than 64, and the mask by 1 is the remainder by 2.
 -- Assumes nothing.
 use borrow.Author.Needs.{needs}
-use native.Mathlib.Omega.{arith}
-use mathlib.Core.Path.{_≡_, refl, sym, _∙_, ap}
+use mathlib.Core.Path.{_∙_, ap}
 use Prim.Native.Nat.{ℕ, _+_, _-_, _/_, _%_, _^_}
 use lib.Dec.{eqb}
 use lib.Bits.{and-mask}

@@ -2,10 +2,6 @@
 -- Assumes nothing.
 use borrow.Author.Needs.{needs}
 use borrow.Author.Tests.{eq-eqb, ne-eqb}
-use mathlib.Core.Path.{sym, ap}
-use Prim.Native.Nat.{_-_}
-use mathlib.Core.Bool.{Bool}
-use Rattle.model.specs.Basics.{pick}
 use Rattle.search.proofs.walk.index_of.Statement.{statement}
 use Rattle.search.proofs.walk.index_of.Tie as tie
 

@@ -4,8 +4,8 @@
 use borrow.Author.Needs.{needs}
 use mathlib.Core.Path.{sym, _∙_}
 use native.Mathlib.Omega.{arith}
-use Rattle.search.proofs.Steps.{chain-spent, chain-stop}
-use Rattle.search.proofs.Returns.{marked-long, head-unfiled, head-marked, head-goes}
+use Rattle.search.proofs.Steps.{chain-spent}
+use Rattle.search.proofs.Returns.{head-unfiled, head-marked, head-goes}
 use Rattle.search.proofs.walk.mark_leaf.Statement.{statement}
 use Rattle.search.proofs.walk.mark_leaf.Tie as tie
 
