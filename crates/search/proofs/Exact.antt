@@ -188,7 +188,7 @@ module _ (sigs links : List ℕ) (q : ℕ) (m out : List ℕ) (S : Sound sigs li
         let c : length hs + (B - length hs) ≡ B = omega arith in
         let free : Unmarked z hs = unmarked-all hs z (hits-distinct B F sigs links q [] t (rootOf links) held placed)
         (λ x n. let r = in-range x n in let low = r .0 in let high = r .1 in (low, ne-eqb (getD z (x - 1) 0) 1 (omega (arith, cleared-at B m (x - 1) (omega arith))))) in
-        sym (rw (a, b, c) at (walk-marks sigs links q (S .fits .blocks-to) (S .fits .width-to) [] t F (rootOf links) (B - 1 - reads sigs F q t) (B - forks sigs F q t) (B - length hs) z held placed (depth-root F sigs links t placed) free))
+        sym (rw (a, b, c) at (walk-marks sigs links q (S .fits .width-to) [] t F (rootOf links) (B - 1 - reads sigs F q t) (B - forks sigs F q t) (B - length hs) z held placed (depth-root F sigs links t placed) free))
 
     on-some : Exact (foundTwin sigs links q m out)
     on-some =

@@ -7,9 +7,9 @@ use mathlib.Core.Path.{_≡_, refl, sym, _∙_, ap}
 use mathlib.Core.Logic.{_⊎_, inl, inr}
 use mathlib.Core.Bool.{Bool, true, false}
 use mathlib.Core.List.{List}
-use lib.Dec.{eqb, ltb}
+use lib.Dec.{eqb}
 use lib.ListN.{length, getD}
-use borrow.Author.Tests.{eqb-true, eqb-false, ne-eqb, le-leb, lt-leb, le-ltb, ltb-true, ltb-false}
+use borrow.Author.Tests.{eqb-true, eqb-false, le-leb, lt-leb}
 use Rattle.model.specs.Basics.{pick}
 use Rattle.model.specs.Tables.{widthOf}
 use Rattle.model.specs.Packed.{positionIn, leftIn, rightIn, unpacked, Packs}
@@ -17,39 +17,9 @@ use Rattle.model.proofs.Packing.{front-word, node-position, node-left, node-rig
 use Rattle.search.specs.Budget.{Budget, unfit, nodeLess, forkLess, Forking}
 use Rattle.search.specs.Search.{SizedPacked, leafTwin, sideAt, indexOf, isLeaf, rightFirst, inTurn, nodeTwin, wordAt, walkTwin, wordTwin}
 use Rattle.search.proofs.Steps.{leaf-none, walk-leaf, walk-none, node-spent, node-right as goes-right, node-both}
+use Rattle.search.proofs.Leaves.{leaf-block, no-leaf}
 use Rattle.search.proofs.Rows.{leaf-row}
 use Rattle.search.proofs.Returns.{still-sized, still-forking}
-
--- a leaf is one of the blocks, and what is none is nothing or above them
-module _ (B r : ℕ) where
-  pub leaf-block : B ≤ 65535 → isLeaf B r ≡ true → (1 ≤ r) × (r ≤ B)
-  leaf-block few e = go (eqb r 0) refl e
-    where
-      go : (t : Bool) → eqb r 0 ≡ t → ltb (pick t 18446744073709551615 (r - 1)) B ≡ true → (1 ≤ r) × (r ≤ B)
-      go true z h = let k = ltb-true 18446744073709551615 B h in absurd (omega arith)
-      go false z h =
-          let k = ltb-true (r - 1) B h in
-          let n = eqb-false r 0 z in
-          (omega arith, omega arith)
-
-  pub index-above : isLeaf B r ≡ false → B ≤ indexOf r
-  index-above e = ltb-false (indexOf r) B e
-
-  pub no-leaf : isLeaf B r ≡ false → (r ≡ 0) ⊎ (B < r)
-  no-leaf e = go (eqb r 0) refl e
-    where
-      go : (t : Bool) → eqb r 0 ≡ t → ltb (pick t 18446744073709551615 (r - 1)) B ≡ false → (r ≡ 0) ⊎ (B < r)
-      go true z h = inl (eqb-true r 0 z)
-      go false z h =
-          let k = ltb-false (r - 1) B h in
-          let n = eqb-false r 0 z in
-          inr (omega arith)
-
-pub above-leaf : (B r : ℕ) → B < r → isLeaf B r ≡ false
-above-leaf B r lt =
-    let ne : r ≡ 0 → ⊥ = omega arith in
-    let ge : B ≤ r - 1 = omega arith in
-    rw (ne-eqb r 0 ne) (le-ltb (r - 1) B ge)
 
 -- the word that is read for a reference r that is no leaf, by the index i of its node
 module _ (B : ℕ) (nodes : List ℕ) (r : ℕ) (none : isLeaf B r ≡ false) (long : (length nodes + 1 ≡ B) × (B ≤ 65535)) (i : ℕ) (e : i ≡ indexOf r) where

@@ -9,7 +9,7 @@ use mathlib.Core.Bool.{Bool, true, false}
 use mathlib.Core.List.{List, [], _∷_, _++_, List·Memᴰ, List·Memᴰ·head, List·Memᴰ·tail, List·Memᴰ·append-cases}
 use lib.Dec.{eqb}
 use lib.ListN.{length, length-append}
-use borrow.Author.Tests.{eq-eqb, ne-eqb, lt-ltb, le-ltb}
+use borrow.Author.Tests.{eq-eqb, ne-eqb, le-ltb}
 use Rattle.model.specs.Basics.{pick}
 use Rattle.model.specs.Signature.{bitAt, coversb}
 use Rattle.model.specs.Tree.{goesLeft, Edge, edge, compared, nodesRead}
@@ -20,6 +20,7 @@ use Rattle.tables.proofs.Trees.{depth, treeShape}
 use Rattle.search.specs.Budget.{Budget, forkLess}
 use Rattle.search.specs.Marks.{isMarked, mark}
 use Rattle.search.specs.Search.{mayMark, chainTwin, leafTwin, sideAt, isLeaf, inTurn, nodeTwin, walkTwin}
+use Rattle.search.proofs.Leaves.{block-leaf, above-leaf}
 use Rattle.search.proofs.Steps.{chain-end, chain-mark, leaf-passed, leaf-chain, walk-leaf, walk-node, node-right, node-both}
 
 -- blocks marked in turn
@@ -139,20 +140,12 @@ unfolding sideAt
 side-bit F q p low high wide = let e : (F + 64 - p % 64) % 64 ≡ F - p = omega arith in rw e
 
 -- a reference that a shape stands at is a leaf where the shape is one
-leaf-tip : (B : ℕ) (L : List ℕ) (r : ℕ) (t : Shape) → Holds B L r t → B ≤ 65535 → isLeaf B r ≡ isTip t
-leaf-tip B L r (tip h cs) o few =
+leaf-tip : (B : ℕ) (L : List ℕ) (r : ℕ) (t : Shape) → Holds B L r t → isLeaf B r ≡ isTip t
+leaf-tip B L r (tip h cs) o = rw (o .0) (block-leaf B h (o .1) (o .2))
+leaf-tip B L r (fork i p l k) o =
     let e = o .0 in
     let low = o .1 in
-    let high = o .2 in
-    let ne : r ≡ 0 → ⊥ = omega arith in
-    let lt : r - 1 < B = omega arith in
-    rw (ne-eqb r 0 ne) (lt-ltb (r - 1) B lt)
-leaf-tip B L r (fork i p l k) o few =
-    let e = o .0 in
-    let low = o .1 in
-    let ne : r ≡ 0 → ⊥ = omega arith in
-    let ge : B ≤ r - 1 = omega arith in
-    rw (ne-eqb r 0 ne) (le-ltb (r - 1) B ge)
+    above-leaf B r (omega arith)
 
 module _ (sigs links : List ℕ) (q : ℕ) where
   abbrev Left : ℕ → ℕ → ℕ → Budget
@@ -208,7 +201,7 @@ module _ (sigs links : List ℕ) (q : ℕ) where
   turn-marks a b x y u n f k m ea eb =
       rw (ea, markAll-append m (hits sigs F q a) (hits sigs F q b)) eb
 
-  module _ (i p : ℕ) (l r : Shape) (u x n f k : ℕ) (m : List ℕ) (o : Holds (length sigs) links x (fork i p l r)) (few : length sigs ≤ 65535) (wide : F ≤ 64)
+  module _ (i p : ℕ) (l r : Shape) (u x n f k : ℕ) (m : List ℕ) (o : Holds (length sigs) links x (fork i p l r)) (wide : F ≤ 64)
       (first : 1 ≤ p) (last : p ≤ widthOf links) (deep : 1 ≤ u) where
     abbrev Y : ℕ
     Y = rightOf (length sigs) links i
@@ -260,7 +253,7 @@ module _ (sigs links : List ℕ) (q : ℕ) where
     fork-clear e ihl ihr un =
         at-fork Above
         ∙ node-both (walkTwin (u - 1) sigs links q) F (length sigs) q p X Y Above m some (ap (λ (v : ℕ). eqb v 1) (side-bit F q p first last wide) ∙ both-ways sigs F q i p l r e)
-        ∙ rw (leaf-tip (length sigs) links X l (o .4) few, leaf-tip (length sigs) links Y r (o .5) few) (go (tipLast l r) (subst (Unmarked m) (hits-clear sigs F q i p l r e) un))
+        ∙ rw (leaf-tip (length sigs) links X l (o .4), leaf-tip (length sigs) links Y r (o .5)) (go (tipLast l r) (subst (Unmarked m) (hits-clear sigs F q i p l r e) un))
         ∙ ap (λ (bs : List ℕ). (Left n f k, markAll m bs)) (sym (hits-clear sigs F q i p l r e))
       where
         some : Above .nodes ≡ 0 → ⊥
@@ -276,10 +269,10 @@ module _ (sigs links : List ℕ) (q : ℕ) where
             rw (below-is e l r refl refl refl) (turn-marks l r X Y (u - 1) n f k m (ihl _ _ _ m (w .0)) (ihr n f k _ (w .1)))
 
   -- THE WALK OF A SHAPE, with as many positions untested as it is deep
-  pub walk-marks : length sigs ≤ 65535 → F ≤ 64 → (path : List Edge) (t : Shape) (u r n f k : ℕ) (m : List ℕ) → Holds (length sigs) links r t → Placed F sigs links path t → depth t ≤ u
+  pub walk-marks : F ≤ 64 → (path : List Edge) (t : Shape) (u r n f k : ℕ) (m : List ℕ) → Holds (length sigs) links r t → Placed F sigs links path t → depth t ≤ u
       → Unmarked m (hits sigs F q t) → Marks t n f k m u r
   unfolding nodesRead
-  walk-marks few wide path (tip h cs) u r n f k m o pl d un =
+  walk-marks wide path (tip h cs) u r n f k m o pl d un =
       let zn : 0 + n ≡ n = omega arith in
       let zf : 0 + f ≡ f = omega arith in
       let low = o .1 in
@@ -287,13 +280,13 @@ module _ (sigs links : List ℕ) (q : ℕ) where
       rw (zn, zf, o .0)
       (walk-leaf sigs links q h _ m u high
       ∙ leaf-marks cs h n f k m low high (o .3) (pl .1) (coversb F (signatureOf sigs h) q) refl un)
-  walk-marks few wide path (fork i p l y) u r n f k m o pl d un = go (bit-cases F q p)
-      (λ n′ f′ k′ m′ v. walk-marks few wide (edge p 0 ∷ path) l (u - 1) (leftOf (length sigs) links i) n′ f′ k′ m′ (o .4) (pl .3) (omega arith) v)
-      (λ n′ f′ k′ m′ v. walk-marks few wide (edge p 1 ∷ path) y (u - 1) (rightOf (length sigs) links i) n′ f′ k′ m′ (o .5) (pl .4) (omega arith) v)
+  walk-marks wide path (fork i p l y) u r n f k m o pl d un = go (bit-cases F q p)
+      (λ n′ f′ k′ m′ v. walk-marks wide (edge p 0 ∷ path) l (u - 1) (leftOf (length sigs) links i) n′ f′ k′ m′ (o .4) (pl .3) (omega arith) v)
+      (λ n′ f′ k′ m′ v. walk-marks wide (edge p 1 ∷ path) y (u - 1) (rightOf (length sigs) links i) n′ f′ k′ m′ (o .5) (pl .4) (omega arith) v)
     where
       go : (bitAt F q p ≡ 0) ⊎ (bitAt F q p ≡ 1)
           → ((n f k : ℕ) (m : List ℕ) → Unmarked m (hits sigs F q l) → Marks l n f k m (u - 1) (leftOf (length sigs) links i))
           → ((n f k : ℕ) (m : List ℕ) → Unmarked m (hits sigs F q y) → Marks y n f k m (u - 1) (rightOf (length sigs) links i))
           → Marks (fork i p l y) n f k m u r
-      go (inr e) ihl ihr = fork-set i p l y u r n f k m o few wide (pl .0) (pl .1) (omega arith) e (ihr n f k m (subst (Unmarked m) (hits-set sigs F q i p l y e) un))
-      go (inl e) ihl ihr = fork-clear i p l y u r n f k m o few wide (pl .0) (pl .1) (omega arith) e ihl ihr un
+      go (inr e) ihl ihr = fork-set i p l y u r n f k m o wide (pl .0) (pl .1) (omega arith) e (ihr n f k m (subst (Unmarked m) (hits-set sigs F q i p l y e) un))
+      go (inl e) ihl ihr = fork-clear i p l y u r n f k m o wide (pl .0) (pl .1) (omega arith) e ihl ihr un

@@ -65,8 +65,8 @@ leafTwin sigs links q r l m =
     pick (eqb r 0) (unfit, m)
     (pick (coversb (widthOf links) (signatureOf sigs r) q) (chainTwin sigs links q (l .nodes) (l .forks) (l .blocks) r m) (l, m))
 
--- The side of a query at a node that tests position p: its bit there. A position that is none of 1 to F, on unsound tables, gives some
--- bit of the query: no position is refused, since the walk ends without that.
+-- The side of a query at a node that tests position p: its bit there, found by a shift of a word of 64 bits. A position that is none of
+-- 1 to F, on unsound tables, gives some bit of that word: no position is refused, since the walk ends without that.
 unfoldable pub sideAt : ℕ → ℕ → ℕ → ℕ
 sideAt F q p = q / 2 ^ ((F + 64 - p % 64) % 64) % 2
 

@@ -150,11 +150,11 @@ fn word_at(words: &[&[u64]; 2], reference: u32) -> u64
 {
     let signatures = words[SIGNATURES];
     let nodes = words[NODES];
-    let node = index_of(reference) - signatures.len();
-    if nodes.len() <= node {
+    let at = index_of(reference) - signatures.len();
+    if nodes.len() <= at {
         return 0;
     }
-    nodes[node]
+    nodes[at]
 }
 
 // Does the query go right only at a node of this word? Its position is not asked whether it is one: whatever it is, some bit is read.

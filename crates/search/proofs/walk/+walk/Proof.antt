@@ -9,7 +9,8 @@ use borrow.Fn.Kinds.{In, Out}
 use borrow.Fn.PlainCycle.{Measures, is, falls, and}
 use Rattle.search.specs.Budget.{budgetOf}
 use Rattle.search.specs.Search.{sliceAt}
-use Rattle.search.proofs.Nodes.{AtNode, leaf-block, side-read, word-out, word-spent, right-alone, left-leaf, no-leaves, right-leaf, leaf-gives, node-gives, sized-after, forking-after, node-below, fork-below}
+use Rattle.search.proofs.Leaves.{leaf-block}
+use Rattle.search.proofs.Nodes.{AtNode, side-read, word-out, word-spent, right-alone, left-leaf, no-leaves, right-leaf, leaf-gives, node-gives, sized-after, forking-after, node-below, fork-below}
 use Rattle.search.proofs.walk.walk.Reads as walk
 use Rattle.search.proofs.walk.walk.Kinds as walk-kinds
 use Rattle.search.proofs.walk.+walk.Lts-walk as walk-lts

@@ -1,7 +1,8 @@
 -- `search::walk::walk_root` meets its contract: a root that is no leaf is the word that is read for it.
 -- Assumes nothing.
 use mathlib.Core.Path.{sym, _∙_}
-use Rattle.search.proofs.Nodes.{above-leaf, walk-at}
+use Rattle.search.proofs.Leaves.{above-leaf}
+use Rattle.search.proofs.Nodes.{walk-at}
 use Rattle.search.proofs.walk.walk_root.Statement.{statement}
 use Rattle.search.proofs.walk.walk_root.Tie as tie
 

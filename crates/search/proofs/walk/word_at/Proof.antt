@@ -4,7 +4,8 @@ use borrow.Author.Needs.{needs}
 use native.Mathlib.Omega.{arith}
 use lib.ListN.{length}
 use Rattle.search.specs.Search.{sliceAt}
-use Rattle.search.proofs.Nodes.{index-above, word-none, word-some}
+use Rattle.search.proofs.Leaves.{index-above}
+use Rattle.search.proofs.Nodes.{word-none, word-some}
 use Rattle.search.proofs.walk.word_at.Statement.{statement}
 use Rattle.search.proofs.walk.word_at.Tie as tie
 
@@ -17,8 +18,8 @@ element-copy-out-nodes c = search needs
 index-of-requires : tie.Need-index-of-requires
 index-of-requires c κs = search needs
 
-sub-node : tie.Need-sub-node
-sub-node c =
+sub-at : tie.Need-sub-at
+sub-at c =
     let entry = c .before .before .before in
     omega (arith, index-above (length (sliceAt (entry .args .words .now) 0)) (entry .args .reference) (entry .pre .0), c .index-of .ensures)
 
@@ -26,7 +27,7 @@ returns : tie.Need-returns
 returns c =
     let at-index-of = c .before in
     let entry = at-index-of .before .before .before in
-    word-none _ _ _ (entry .pre .0) (entry .pre .1, entry .pre .2) _ (at-index-of .index-of .ensures) (c .if1 .taken)
+    word-none _ _ _ (entry .pre .0) (entry .pre .1, entry .pre .2) _ (at-index-of .index-of .ensures) (omega (arith, c .if1 .taken))
 
 mul-result : tie.Need-mul-result
 mul-result c = search needs
@@ -48,7 +49,7 @@ word-at-spec =
     element-copy-out-signatures
     element-copy-out-nodes
     index-of-requires
-    sub-node
+    sub-at
     returns
     mul-result
     shared-slice-read-result
