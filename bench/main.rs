@@ -55,12 +55,15 @@ struct Store {
 
 impl Store {
     fn filed(signatures: &[u64]) -> Store {
+        Store::filed_in(signatures, 1..=signatures.len() as u32)
+    }
+    fn filed_in(signatures: &[u64], order: impl Iterator<Item = u32>) -> Store {
         let n = signatures.len();
         let mut x = Store { signatures: vec![0; n], links: vec![0; 5 + 2 * n], nodes: vec![0; n - 1] };
         let (s, l, d) = (&mut x.signatures, &mut x.links, &mut x.nodes);
         assert_eq!(unsafe { sigtree_clear(s.as_mut_ptr(), n, l.as_mut_ptr(), l.len(), d.as_mut_ptr(), d.len(), WIDTH) }, 0);
-        for (b, &signature) in signatures.iter().enumerate() {
-            x.file(b as u32 + 1, signature);
+        for b in order {
+            x.file(b, signatures[b as usize - 1]);
         }
         x
     }
@@ -351,6 +354,23 @@ fn conversions(name: &str, signatures: &[u64]) {
     println!("| {name} | {:.0} | {:.0} | {:.0} |", audit / 1000.0, pack / 1000.0, unpack / 1000.0);
 }
 
+/// What a search compares where the same blocks were filed in two orders, and once both stores are rebuilt.
+fn quotes(name: &str, signatures: &[u64], rng: &mut Rng) {
+    let filed = [Store::filed(signatures), Store::filed_in(signatures, (1..=signatures.len() as u32).rev())];
+    let mut rebuilt = filed.clone().map(|store| Searched::of(store.rebuilt()));
+    let mut filed = filed.map(Searched::of);
+    for bits in [1, 4, 8, 16, 32] {
+        let queries = rng.queries(signatures, 64, bits);
+        let counts = |x: &mut Searched| queries.iter().map(|&q| x.by_library(q)).collect::<Vec<Counts>>();
+        let [first, last] = filed.each_mut().map(counts);
+        let [one, other] = rebuilt.each_mut().map(counts);
+        assert!(one == other);
+        let mean = |counts: &[Counts]| counts.iter().map(|c| c.compares as f64).sum::<f64>() / counts.len() as f64;
+        let differ = first.iter().zip(&last).filter(|(a, b)| a.compares != b.compares).count();
+        println!("| {name} | {bits} | {:.0} | {:.0} | {differ} of {} | {:.0} |", mean(&first), mean(&last), queries.len(), mean(&one));
+    }
+}
+
 /// The geometric mean of some rows, and the largest.
 fn mean_and_largest(rows: &[&Row], ratio: fn(&Row) -> f64) -> (f64, f64) {
     let logs: f64 = rows.iter().map(|&r| ratio(r).ln()).sum();
@@ -419,6 +439,10 @@ fn main() {
     heading("store | audit | pack, with its audit | unpack, with its audit");
     for (name, signatures) in &stores {
         conversions(name, signatures);
+    }
+    heading("store | bits set | compares, filed first to last | last to first | queries that differ | rebuilt, either");
+    for (name, signatures) in &stores {
+        quotes(name, signatures, &mut rng);
     }
     summary(&rows);
 }

@@ -48,6 +48,10 @@
  *
  * The ceiling of a search, known before it: its compares are at most the number of distinct signatures filed, and at most 2^z, where z
  * is the number of positions 1 to F that the query does not set. Its bits read are at most F times its compares.
+ *
+ * Equal quotes: from a rebuild on, until a call changes the tables, the compares and bits read of a search depend on the query, the
+ * width and the set of filed signatures alone. Two indexes that hold the same set, each rebuilt after its last change, report the same,
+ * however they were filled and however many blocks they have. See docs/PRICE.md and examples/mirrors.c.
  */
 #ifndef SIGTREE_H
 #define SIGTREE_H
@@ -76,8 +80,8 @@ uint32_t sigtree_file(uint64_t *signatures, size_t signatures_length, uint32_t *
 uint32_t sigtree_withdraw(uint64_t *signatures, size_t signatures_length, uint32_t *links, size_t links_length, uint64_t *nodes,
                           size_t nodes_length, uint32_t block);
 
-/* Makes the tree anew, so that each node parts its signatures as evenly as it can. Borrows B words of scratch, free afterwards; words
- * beyond B are unchanged. Asks 4, 9, 11. */
+/* Makes the tree anew from the filed signatures, so that each node parts its signatures as evenly as it can; how the tree had grown leaves
+ * no trace. Borrows B words of scratch, free afterwards; words beyond B are unchanged. Asks 4, 9, 11. */
 uint32_t sigtree_rebuild(const uint64_t *signatures, size_t signatures_length, uint32_t *links, size_t links_length, uint64_t *nodes,
                          size_t nodes_length, uint32_t *scratch, size_t scratch_length);
 

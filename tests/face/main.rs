@@ -8,6 +8,7 @@ mod face;
 mod guarded;
 mod largest;
 mod lists;
+mod mirrors;
 mod packed;
 mod plain;
 mod reference;
@@ -27,5 +28,10 @@ fn main() {
     let [done, unfit, unsound] = convert::convert(&mut rng, 100_000);
     println!("{} conversions as the request says: {done} done, {unfit} refused with 4, {unsound} with 11", done + unfit + unsound);
     println!("{} calls on stores of 65,535 blocks as the request says", largest::largest(&mut rng));
+    let mirrors = mirrors::mirrors(&mut rng, 200_000);
+    println!(
+        "{} pairs of mirrors with the same counts for {} queries once rebuilt, {} of them with other counts before",
+        mirrors.pairs, mirrors.queries, mirrors.differed
+    );
     println!("{} texts signed and split as the request says", texts::texts(&mut rng, 500_000));
 }

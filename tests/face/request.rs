@@ -55,8 +55,8 @@ impl Call {
         })
     }
 
-    /// The bytes of its slip, now and then with one byte changed or another length.
-    fn as_slip(&self, rng: &mut Rng) -> Option<Vec<u8>> {
+    /// The bytes of its slip, where it has one.
+    pub fn bytes(&self) -> Option<Vec<u8>> {
         let (kind, block, signature) = match self {
             Call::Clear(width) => (0, *width, 0),
             Call::File(b, s) => (1, *b, *s),
@@ -68,6 +68,12 @@ impl Call {
         let mut bytes = vec![kind, 0, 0, 0];
         bytes.extend(block.to_be_bytes());
         bytes.extend(u64::to_be_bytes(signature));
+        Some(bytes)
+    }
+
+    /// The same, now and then with one byte changed or another length.
+    fn as_slip(&self, rng: &mut Rng) -> Option<Vec<u8>> {
+        let mut bytes = self.bytes()?;
         if rng.one_in(6) {
             let at = rng.below(16) as usize;
             bytes[at] = rng.next() as u8;

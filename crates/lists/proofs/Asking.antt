@@ -56,13 +56,13 @@ module _ (sigs links : List ℕ) where
       (g .0, g .1, eqb-false (filedOf links b) 0 (not-true (eqb (filedOf links b) 0) (z .0)))
 
   module _ (S : Sound sigs links) where
-    lengths-tables : asksTables sigs links .lengths ≡ true
+    pub lengths-tables : asksTables sigs links .lengths ≡ true
     lengths-tables = lengths-fit sigs links (S .fits .blocks-from) (S .fits .blocks-to) (S .fits .links-long)
 
     lengths-ledger : asksLedger (ledgerOf sigs links) .lengths ≡ true
     lengths-ledger = rw (entries-length sigs links (length sigs) 1, le-leb 1 (length sigs) (S .fits .blocks-from), le-leb (length sigs) mostBlocks (S .fits .blocks-to))
 
-    words-tables : asksTables sigs links .words ≡ true
+    pub words-tables : asksTables sigs links .words ≡ true
     words-tables = rw (le-leb 1 (widthOf links) (S .fits .width-from), le-leb (widthOf links) widest (S .fits .width-to), eq-eqb (toldBlocks links) (length sigs) (S .fits .told-word))
 
     words-ledger : asksLedger (ledgerOf sigs links) .words ≡ true

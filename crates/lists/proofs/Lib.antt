@@ -12,3 +12,5 @@ pub mod Alike
 pub mod Outcomes
 pub mod Packed
 pub mod SameForms
+pub mod SameQuote
+pub mod Stores

@@ -13,10 +13,10 @@ use Rattle.model.specs.Packed.{opened, unpacked}
 use Rattle.model.specs.Questions.{Work, Call, clear, file, withdraw, rebuild, search, audit, Reading, refused, carries}
 use Rattle.model.specs.Ledger.{Ledger, emptyLedger, Report}
 use Rattle.model.specs.Promises.{Changes}
-use Rattle.model.specs.Lists.{Memory, Gives, GivesReading, reading, Step, Run}
+use Rattle.model.specs.Lists.{Memory, Gives, GivesReading, reading, Run}
 use Rattle.model.specs.Claim.{Claim, Begins, zeros}
 use Rattle.model.specs.PackedPromises.{packedFit}
-use Rattle.model.specs.PackedLists.{PackedMemory, held, PackedGives, PackedStep, PackedRun}
+use Rattle.model.specs.PackedLists.{PackedMemory, held, PackedGives, PackedStep, heldSteps, PackedRun}
 use Rattle.lists.specs.Moves.{refusalIn}
 use Rattle.lists.proofs.Demand.{demand}
 
@@ -48,14 +48,7 @@ reading-long (carries c) M o M′ g = gives-long c M o M′ g
 fit-after : (sigs links nodes sigs′ links′ nodes′ : List ℕ) → packedFit sigs links nodes ≡ true → length sigs′ ≡ length sigs → length links′ ≡ length links → length nodes′ ≡ length nodes → packedFit sigs′ links′ nodes′ ≡ true
 fit-after sigs links nodes sigs′ links′ nodes′ f a b c = rw (a, b, c) f
 
--- A step of packed tables as a step of the tables that they hold, and a run as a run.
-abbrev heldStep : PackedStep → Step
-heldStep u = record { request = u .request; lent = u .lent; report = u .report; left = held (u .left) }
-
-abbrev pub heldSteps : List PackedStep → List Step
-heldSteps [] = []
-heldSteps (u ∷ us) = heldStep u ∷ heldSteps us
-
+-- A step of packed tables is a step of the tables that they hold, and a run a run.
 module _ (sigs links nodes : List ℕ) (f : packedFit sigs links nodes ≡ true) (u : PackedStep)
     (g : PackedGives (reading (u .request)) (record { signatures = sigs; links = links; nodes = nodes; work = u .lent }) (u .report) (u .left)) where
   pub step-held : GivesReading (reading (u .request)) (record { signatures = sigs; links = unpacked links nodes; work = u .lent }) (u .report) (held (u .left))

@@ -12,8 +12,8 @@ use borrow.Author.Tests.{ltb-true, ltb-false}
 use Rattle.model.specs.Basics.{upFrom, keep}
 use Rattle.model.specs.Build.{smaller, bestOf, bestPosition}
 
--- 00 and 11 are split as well at position 2 as at 1
-tie : bestPosition 2 (λ s. s) (0 ∷ 3 ∷ []) ≡ 1
+-- 11 and 00 are split as well at position 2 as at 1
+tie : bestPosition 2 (λ s. s) (0b11 ∷ 0b00 ∷ []) ≡ 1
 unfolding bestOf smaller keep upFrom
 tie = refl
 

@@ -4,16 +4,20 @@
 use Prim.Native.Nat.{ℕ, zero, suc, _-_, min}
 use native.Mathlib.Omega.{arith}
 use mathlib.Core.Path.{_≡_, refl, _∙_, ap, ap₂}
-use mathlib.Core.List.{List, [], _∷_, List·Memᴰ}
+use mathlib.Core.List.{List, [], _∷_}
 use lib.Dec.{eqb}
 use lib.ListN.{length}
-use Rattle.model.specs.Basics.{upFrom}
+use Rattle.model.specs.Basics.{keep, upFrom}
 use Rattle.model.specs.Signature.{bitAt}
 use Rattle.model.specs.Tree.{leaf}
 use Rattle.model.specs.Build.{side, smaller, bestOf, bestPosition, buildWithin, build}
-use Rattle.model.proofs.Pigeon.{Distinct}
-use Rattle.model.proofs.Members.{Same, same-length, same-members}
+use Rattle.model.proofs.Members.{Same, same-length}
 use Rattle.model.proofs.Keep.{keep-same}
+
+-- the same three signatures in two orders
+two-orders : build 2 (0b01 ∷ 0b00 ∷ 0b10 ∷ []) ≡ build 2 (0b10 ∷ 0b00 ∷ 0b01 ∷ [])
+unfolding keep upFrom smaller bestOf buildWithin
+two-orders = refl
 
 module _ (F : ℕ) (of : ℕ → ℕ) where
   pub side-same : (p e : ℕ) (k l : List ℕ) → Same k l → Same (side F of p e k) (side F of p e l)
@@ -49,7 +53,3 @@ within-same (suc n) F (x ∷ w ∷ k) (y ∷ z ∷ l) h =
 
 pub build-same : (F : ℕ) (k l : List ℕ) → Same k l → build F k ≡ build F l
 build-same F k l h = ap (λ (n : ℕ). buildWithin n F k) (same-length k l h) ∙ within-same (length l) F k l h
-
--- lists with no signature twice and the same signatures
-pub build-members : (F : ℕ) (k l : List ℕ) → Distinct k → Distinct l → ((s : ℕ) → List·Memᴰ s k → List·Memᴰ s l) → ((s : ℕ) → List·Memᴰ s l → List·Memᴰ s k) → build F k ≡ build F l
-build-members F k l d e i j = build-same F k l (same-members k l d e i j)

@@ -21,5 +21,7 @@ pub mod Insert
 pub mod Remove
 pub mod Entered
 pub mod Matching
+pub mod Pairs
 pub mod Eleven
-pub mod Marked
+pub mod SameQuote
+pub mod Mirrors

@@ -19,5 +19,6 @@ pub mod Claim
 pub mod PackedPromises
 pub mod PackedLists
 pub mod SameForms
+pub mod SameQuote
 pub mod Lines
 pub mod Words

@@ -3,7 +3,7 @@
 -- packed words.
 -- Assumes nothing.
 use Prim.Native.Nat.{ℕ, zero, suc, max}
-use mathlib.Core.Bool.{Bool, true, false}
+use mathlib.Core.Bool.{true, false}
 use mathlib.Core.List.{List, [], _∷_}
 use lib.Dec.{eqb}
 use lib.ListN.{length}
@@ -17,6 +17,10 @@ use Rattle.model.specs.Rebuild.{rebuildLinks}
 use Rattle.model.specs.Questions.{asksTables, Work, Call, clear, file, withdraw, rebuild, search, audit, refusal, kindIn, Reading, refused, carries, readSlip}
 use Rattle.model.specs.Ledger.{Ledger, matching, ledgerOf, asksLedger, ledgerAfter, treeAfter, Report, bare, reportBy}
 use Rattle.model.specs.Promises.{searchReport}
+
+-- a slip of numbers below 256: kind, block (for a clear the width), signature or query
+unfoldable pub slipOf : ℕ → ℕ → ℕ → List ℕ
+slipOf kind block signature = kind ∷ 0 ∷ 0 ∷ 0 ∷ 0 ∷ 0 ∷ 0 ∷ block ∷ 0 ∷ 0 ∷ 0 ∷ 0 ∷ 0 ∷ 0 ∷ 0 ∷ signature ∷ []
 
 -- a line
 abbrev pub lineOf : List ℕ → Report → List ℕ → List ℕ

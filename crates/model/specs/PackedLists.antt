@@ -7,7 +7,7 @@ use mathlib.Core.List.{List, [], _∷_}
 use Rattle.model.specs.Packed.{unpacked}
 use Rattle.model.specs.Questions.{Work, Call, Reading, refused, carries, readSlip}
 use Rattle.model.specs.Ledger.{Report, bare}
-use Rattle.model.specs.Lists.{Memory, GivesReading, Request, reading}
+use Rattle.model.specs.Lists.{Memory, GivesReading, Request, reading, Step}
 use Rattle.model.specs.PackedPromises.{packedFit, Stays}
 
 -- all that is lent with a call of packed tables
@@ -39,6 +39,14 @@ pub record PackedStep : Type 0 where
   pub lent : Work
   pub report : Report
   pub left : PackedMemory
+
+-- a step as one of the tables that are held, and a list of them
+abbrev pub heldStep : PackedStep → Step
+heldStep u = record { request = u .request; lent = u .lent; report = u .report; left = held (u .left) }
+
+abbrev pub heldSteps : List PackedStep → List Step
+heldSteps [] = []
+heldSteps (u ∷ us) = heldStep u ∷ heldSteps us
 
 abbrev pub PackedRun : List ℕ → List ℕ → List ℕ → List PackedStep → Type 0
 PackedRun sigs links nodes [] = Unit {0}

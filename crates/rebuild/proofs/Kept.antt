@@ -7,14 +7,16 @@ use mathlib.Core.Path.{_≡_, refl, sym, _∙_, ap, ap₂, subst}
 use mathlib.Core.List.{List, _∷_}
 use lib.ListN.{length}
 use Rattle.model.specs.Basics.{upFrom}
-use Rattle.model.specs.Tree.{signatures}
+use Rattle.model.specs.Tree.{nothing, signatures}
 use Rattle.model.specs.Build.{build}
 use Rattle.model.specs.Tables.{nextAt, filedAt, widthOf, toldBlocks, rootOf, countOf, nextOf, filedOf, treeFrom, treeOf}
 use Rattle.model.specs.Sound.{nodesIn, SoundAt, Sound}
 use Rattle.model.specs.Rebuild.{headsFrom, headsOf, rebuildLinks}
-use Rattle.model.specs.Ledger.{Entry, entriesFrom, ledgerOf, isStored, stored}
-use Rattle.model.proofs.Members.{Same, same-members, once-distinct, in-once, once-in, in-has, has-in}
+use Rattle.model.specs.Ledger.{Entry, entriesFrom, ledgerOf, stored}
+use Rattle.model.specs.SameQuote.{SameWidth, SameSet}
+use Rattle.model.proofs.Members.{Same}
 use Rattle.model.proofs.Build.{build-same}
+use Rattle.model.proofs.Entered.{rebuild-set as ledgers-set}
 use Rattle.tables.proofs.Entries.{entry-same}
 use Rattle.tables.proofs.Trees.{tree-of-sound}
 use Rattle.tables.proofs.Stored.{stored-leaves}
@@ -96,16 +98,7 @@ module _ (sigs links : List ℕ) (S : Sound sigs links) where
     rebuild-free = free-list-one T sound-at ∙ rebuilt sigs links S .free
 
 -- two sound tables of one width with the same stored signatures are rebuilt to the same tree
-pub rebuild-set : (sigs links sigs′ links′ : List ℕ) → Sound sigs links → Sound sigs′ links′ → widthOf links ≡ widthOf links′
-    → ((s : ℕ) → isStored s (ledgerOf sigs links) ≡ isStored s (ledgerOf sigs′ links′)) → treeOf sigs (rebuildLinks sigs links) ≡ treeOf sigs′ (rebuildLinks sigs′ links′)
-rebuild-set sigs links sigs′ links′ S S′ w o =
-    rebuild-stored sigs links S
-    ∙ build-same (widthOf links) (stored (ledgerOf sigs links)) (stored (ledgerOf sigs′ links′)) same
-    ∙ ap (λ (F : ℕ). build F (stored (ledgerOf sigs′ links′))) w
-    ∙ sym (rebuild-stored sigs′ links′ S′)
-  where
-    same : Same (stored (ledgerOf sigs links)) (stored (ledgerOf sigs′ links′))
-    same =
-        same-members (stored (ledgerOf sigs links)) (stored (ledgerOf sigs′ links′)) (once-distinct _) (once-distinct _)
-        (λ s m. in-once _ s (has-in s _ (sym (o s) ∙ in-has s _ (once-in _ s m))))
-        (λ s m. in-once _ s (has-in s _ (o s ∙ in-has s _ (once-in _ s m))))
+pub rebuild-set : (sigs links sigs′ links′ : List ℕ) → Sound sigs links → Sound sigs′ links′ → SameWidth (ledgerOf sigs links) (ledgerOf sigs′ links′)
+    → SameSet (ledgerOf sigs links) (ledgerOf sigs′ links′) → treeOf sigs (rebuildLinks sigs links) ≡ treeOf sigs′ (rebuildLinks sigs′ links′)
+rebuild-set sigs links sigs′ links′ S S′ w h =
+    rebuild-stored sigs links S ∙ ledgers-set (ledgerOf sigs links) (ledgerOf sigs′ links′) nothing nothing w h ∙ sym (rebuild-stored sigs′ links′ S′)

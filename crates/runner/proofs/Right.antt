@@ -11,9 +11,9 @@ use Rattle.model.specs.Ledger.{Ledger, emptyLedger}
 use Rattle.model.specs.Lists.{reading}
 use Rattle.model.specs.Packed.{unpacked}
 use Rattle.model.specs.PackedPromises.{packedFit}
-use Rattle.model.specs.PackedLists.{PackedMemory, PackedStep, PackedGives, PackedRun}
+use Rattle.model.specs.PackedLists.{PackedMemory, PackedGives, PackedStep, heldSteps, PackedRun}
 use Rattle.model.specs.Claim.{Begins, Claim}
-use Rattle.lists.proofs.Packed.{heldSteps, packed-demand, from-sigrun}
+use Rattle.lists.proofs.Packed.{packed-demand, from-sigrun}
 use Rattle.sigtree.specs.Face.{lent}
 use Rattle.runner.specs.Served.{InTurn, none, after}
 use Rattle.runner.specs.Steps.{stepsOf}
