@@ -59,11 +59,7 @@ impl Both {
 
 /// The blocks 1 to 65,535 in a random order.
 fn shuffled(rng: &mut Rng) -> Vec<usize> {
-    let mut blocks: Vec<usize> = (1..=MOST_BLOCKS).collect();
-    for i in (1..MOST_BLOCKS).rev() {
-        blocks.swap(i, rng.below(i as u64 + 1) as usize);
-    }
-    blocks
+    rng.shuffled((1..=MOST_BLOCKS).collect())
 }
 
 /// Where the largest reference stands: a node's index, and 1 for its left or 2 for its right.

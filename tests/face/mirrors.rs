@@ -26,13 +26,6 @@ fn signature(width: u32, rng: &mut Rng) -> u64 {
     if width == 64 { s } else { s & ((1 << width) - 1) }
 }
 
-fn shuffled<T>(mut list: Vec<T>, rng: &mut Rng) -> Vec<T> {
-    for i in (1..list.len()).rev() {
-        list.swap(i, rng.below(i as u64 + 1) as usize);
-    }
-    list
-}
-
 /// Some of the signatures, for blocks 1 to B at random.
 fn any_ledger(blocks: usize, from: &[u64], rng: &mut Rng) -> Ledger {
     (1..=blocks as u32).filter_map(|b| (!rng.one_in(3)).then(|| (b, rng.pick(from)))).collect()
@@ -40,7 +33,7 @@ fn any_ledger(blocks: usize, from: &[u64], rng: &mut Rng) -> Ledger {
 
 /// All of the signatures, each in a block of its own, then some of them in other blocks again.
 fn ledger_of(set: &[u64], blocks: usize, rng: &mut Rng) -> Ledger {
-    let order = shuffled((1..=blocks as u32).collect(), rng);
+    let order = rng.shuffled((1..=blocks as u32).collect());
     let again = order[set.len()..].iter().filter_map(|&b| rng.one_in(2).then(|| (b, rng.pick(set)))).collect::<Vec<_>>();
     order.iter().copied().zip(set.iter().copied()).chain(again).collect()
 }
@@ -71,7 +64,7 @@ impl Mirror {
     fn grown(blocks: usize, width: u32, ledger: &Ledger, others: &[u64], rng: &mut Rng) -> Mirror {
         let start = if rng.one_in(2) { Ledger::new() } else { any_ledger(blocks, others, rng) };
         let mut tables = Tables::cleared(blocks, width);
-        for (b, s) in shuffled(start.iter().map(|(b, s)| (*b, *s)).collect(), rng) {
+        for (b, s) in rng.shuffled(start.clone().into_iter().collect()) {
             tables.file(b as usize, s);
         }
         if rng.one_in(3) {

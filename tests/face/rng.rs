@@ -21,4 +21,10 @@ impl Rng {
     pub fn pick<T: Copy>(&mut self, from: &[T]) -> T {
         from[self.below(from.len() as u64) as usize]
     }
+    pub fn shuffled<T>(&mut self, mut list: Vec<T>) -> Vec<T> {
+        for i in (1..list.len()).rev() {
+            list.swap(i, self.below(i as u64 + 1) as usize);
+        }
+        list
+    }
 }

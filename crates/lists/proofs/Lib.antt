@@ -13,4 +13,4 @@ pub mod Outcomes
 pub mod Packed
 pub mod SameForms
 pub mod SameQuote
-pub mod Stores
+pub mod Quotable

@@ -1,5 +1,5 @@
 -- Demand 3 of what is served: slips in turn are a run of calls, so every report, list and count, and the tables after each slip, are what
--- the ledger and the plain tree say.
+-- the ledger and the plain tree say; and so are its quotes after a rebuild those of any other index with the same set.
 -- Assumes nothing.
 use Prim.Native.Nat.{ℕ}
 use mathlib.Core.Path.{_≡_, refl}
@@ -13,6 +13,7 @@ use Rattle.model.specs.Packed.{unpacked}
 use Rattle.model.specs.PackedPromises.{packedFit}
 use Rattle.model.specs.PackedLists.{PackedMemory, PackedGives, PackedStep, heldSteps, PackedRun}
 use Rattle.model.specs.Claim.{Begins, Claim}
+use Rattle.model.specs.SameQuote.{Ran, packed-run}
 use Rattle.lists.proofs.Packed.{packed-demand, from-sigrun}
 use Rattle.sigtree.specs.Face.{lent}
 use Rattle.runner.specs.Served.{InTurn, none, after}
@@ -48,6 +49,11 @@ run-of M M′ _ _ (after slips text M₁ r s o _ g) = run-more (M .signatures) (
 pub served-right : (M M′ : PackedMemory) (slips : List (List ℕ)) (text : List ℕ) (L : Ledger) (t : Tree) → packedFit (M .signatures) (M .links) (M .nodes) ≡ true
     → Begins (M .signatures) (unpacked (M .links) (M .nodes)) L t → (r : InTurn M slips text M′) → Claim L t (M .signatures) (unpacked (M .links) (M .nodes)) (heldSteps (stepsOf r))
 served-right M M′ slips text L t f b r = packed-demand (M .signatures) (M .links) (M .nodes) f L t b (stepsOf r) (run-of M M′ slips text r)
+
+-- a list that equal quotes are said of
+pub served-ran : (M M′ : PackedMemory) (slips : List (List ℕ)) (text : List ℕ) (L : Ledger) (t : Tree) → packedFit (M .signatures) (M .links) (M .nodes) ≡ true
+    → Begins (M .signatures) (unpacked (M .links) (M .nodes)) L t → (r : InTurn M slips text M′) → Ran L t (heldSteps (stepsOf r))
+served-ran M M′ slips text L t f b r = packed-run (M .signatures) (M .links) (M .nodes) f b (stepsOf r) (run-of M M′ slips text r)
 
 -- on the index of sigrun: 1,024 blocks, all words 0
 pub sigrun-right : (scratch marks output : List ℕ) (M′ : PackedMemory) (slips : List (List ℕ)) (text : List ℕ)
