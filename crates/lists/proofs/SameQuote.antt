@@ -27,11 +27,11 @@ pub same-quote : SameQuote
 same-quote = quotes ran-claimed
 
 -- an index of packed tables is one that the theorem speaks of: its list in parts is the list held in parts
-held-append : (us vs : List PackedStep) → heldSteps (us ++ vs) ≡ heldSteps us ++ heldSteps vs
+pub held-append : (us vs : List PackedStep) → heldSteps (us ++ vs) ≡ heldSteps us ++ heldSteps vs
 held-append [] vs = refl
 held-append (u ∷ us) vs = ap (λ (ss : List Step). heldStep u ∷ ss) (held-append us vs)
 
-pub packed-quoted : (q : ℕ) (sigs links nodes : List ℕ) → packedFit sigs links nodes ≡ true → (L : Ledger) (t : Tree) → Begins sigs (unpacked links nodes) L t
+unfoldable pub packed-quoted : (q : ℕ) (sigs links nodes : List ℕ) → packedFit sigs links nodes ≡ true → (L : Ledger) (t : Tree) → Begins sigs (unpacked links nodes) L t
     → (calls : List PackedStep) (rebuilt : PackedStep) (between : List PackedStep) (searched : PackedStep)
     → PackedRun sigs links nodes (calls ++ (rebuilt ∷ (between ++ (searched ∷ [])))) → Accepted rebuild (heldStep rebuilt)
     → Still (held (rebuilt .left)) (heldSteps between) → Accepted (search q) (heldStep searched) → Quoted q

@@ -35,8 +35,10 @@ Still M (s ∷ ss) = (s .left .signatures ≡ M .signatures) × (s .left .links 
 -- An index that is rebuilt and then asked: any calls, a rebuild that is carried out, calls that leave the tables as they are, and a search
 -- for q that is not refused. The slices lent to work in may be any.
 pub record Quoted (q : ℕ) : Type 0 where
+  -- at the start
   pub ledger : Ledger
   pub tree : Tree
+  -- the steps in their order, and what they have to be
   pub calls : List Step
   pub rebuilt : Step
   pub between : List Step
