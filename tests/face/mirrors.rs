@@ -53,25 +53,29 @@ fn way(block: u32, from: Option<u64>, to: Option<u64>, others: &[u64], rng: &mut
     calls
 }
 
+/// A sound store of this ledger, written by the independent reading: filed in any order, now and then rebuilt.
+fn written(blocks: usize, width: u32, ledger: &Ledger, rng: &mut Rng) -> Tables {
+    let mut tables = Tables::cleared(blocks, width);
+    for (b, s) in rng.shuffled(ledger.clone().into_iter().collect()) {
+        tables.file(b as usize, s);
+    }
+    if rng.one_in(3) {
+        tables.rebuild();
+    }
+    tables
+}
+
 struct Mirror {
     lent: Lent,
     blocks: usize,
 }
 
 impl Mirror {
-    /// An index that holds this ledger: a sound store that the independent reading has written is filed in and withdrawn from in any
-    /// order, now and then rebuilt.
+    /// An index that holds this ledger: a cleared one or any sound store, filed in and withdrawn from in any order, now and then rebuilt.
     fn grown(blocks: usize, width: u32, ledger: &Ledger, others: &[u64], rng: &mut Rng) -> Mirror {
         let start = if rng.one_in(2) { Ledger::new() } else { any_ledger(blocks, others, rng) };
-        let mut tables = Tables::cleared(blocks, width);
-        for (b, s) in rng.shuffled(start.clone().into_iter().collect()) {
-            tables.file(b as usize, s);
-        }
-        if rng.one_in(3) {
-            tables.rebuild();
-        }
-        let lent = Lent::new(&Packed::of(&tables), &plain_request(Call::Audit, blocks), rng);
-        let mut mirror = Mirror { lent, blocks };
+        let tables = Packed::of(&written(blocks, width, &start, rng));
+        let mut mirror = Mirror { lent: Lent::new(&tables, &plain_request(Call::Audit, blocks), rng), blocks };
         let entry = |ledger: &Ledger, b: u32| ledger.get(&b).copied();
         let ways = (1..=blocks as u32).map(|b| way(b, entry(&start, b), entry(ledger, b), others, rng).into_iter());
         let mut ways: Vec<_> = ways.collect();
