@@ -5,7 +5,8 @@ use native.Mathlib.Omega.{arith}
 use mathlib.Core.Path.{_≡_, refl, sym, _∙_, ap, ap₂, subst}
 use mathlib.Core.Bool.{true, false}
 use mathlib.Core.List.{List, [], _∷_}
-use lib.ListN.{length, getD, drop}
+use lib.ListN.{length, getD, drop, length-drop}
+use lib.Seq.{getD-drop}
 use Rattle.model.specs.Basics.{has}
 use Rattle.model.specs.Signature.{coversb}
 use Rattle.model.specs.Ledger.{Entry, unfiled, pair, Ledger, pairSignatures, matchingFrom, matching}
@@ -15,14 +16,6 @@ use Rattle.model.specs.SameQuote.{SameWidth, SameSet, SamePairs}
 abbrev SameEntries : List Entry → List Entry → Type 0
 SameEntries es es′ = (i : ℕ) → getD es i unfiled ≡ getD es′ i unfiled
 
-rest-at : (es : List Entry) (i : ℕ) → getD (drop 1 es) i unfiled ≡ getD es (suc i) unfiled
-rest-at [] i = refl
-rest-at (e ∷ es) i = refl
-
-rest-short : (n : ℕ) (es : List Entry) → length es ≤ suc n → length (drop 1 es) ≤ n
-rest-short n [] l = omega arith
-rest-short n (e ∷ es) l = omega arith
-
 -- A list that is read from the entries, those of block b and after it, each in its turn: the same of entries that are the same.
 module _ (read : ℕ → List Entry → List ℕ) (first : ℕ → Entry → List ℕ → List ℕ)
     (turn : (b : ℕ) (es : List Entry) → read b es ≡ first b (getD es 0 unfiled) (read (suc b) (drop 1 es))) where
@@ -31,8 +24,10 @@ module _ (read : ℕ → List Entry → List ℕ) (first : ℕ → Entry → Lis
   within-same zero b [] (e ∷ es′) l l′ h = absurd (omega arith)
   within-same zero b (e ∷ es) es′ l l′ h = absurd (omega arith)
   within-same (suc n) b es es′ l l′ h =
-      let rest : SameEntries (drop 1 es) (drop 1 es′) = λ i. rest-at es i ∙ h (suc i) ∙ sym (rest-at es′ i) in
-      turn b es ∙ ap₂ (first b) (h 0) (within-same n (suc b) (drop 1 es) (drop 1 es′) (rest-short n es l) (rest-short n es′ l′) rest) ∙ sym (turn b es′)
+      let rest : SameEntries (drop 1 es) (drop 1 es′) = λ i. getD-drop 1 es i unfiled ∙ h (1 + i) ∙ sym (getD-drop 1 es′ i unfiled) in
+      let k = length-drop 1 es in
+      let k′ = length-drop 1 es′ in
+      turn b es ∙ ap₂ (first b) (h 0) (within-same n (suc b) (drop 1 es) (drop 1 es′) (omega arith) (omega arith) rest) ∙ sym (turn b es′)
 
   read-same : (b : ℕ) (es es′ : List Entry) → SameEntries es es′ → read b es ≡ read b es′
   read-same b es es′ = within-same (length es + length es′) b es es′ (omega arith) (omega arith)

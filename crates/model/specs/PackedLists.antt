@@ -33,14 +33,14 @@ pub record PackedGives (r : Reading) (M : PackedMemory) (o : Report) (M′ : Pac
 abbrev pub PackedSlip : List ℕ → PackedMemory → Report → PackedMemory → Type 0
 PackedSlip bytes = PackedGives (readSlip bytes)
 
--- One call of a list, and a run of them.
+-- One call of a list.
 pub record PackedStep : Type 0 where
   pub request : Request
   pub lent : Work
   pub report : Report
   pub left : PackedMemory
 
--- a step as one of the tables that are held, and a list of them
+-- the same call as one of the tables held, and a list of such
 abbrev pub heldStep : PackedStep → Step
 heldStep u = record { request = u .request; lent = u .lent; report = u .report; left = held (u .left) }
 
@@ -48,6 +48,7 @@ abbrev pub heldSteps : List PackedStep → List Step
 heldSteps [] = []
 heldSteps (u ∷ us) = heldStep u ∷ heldSteps us
 
+-- A run of them.
 abbrev pub PackedRun : List ℕ → List ℕ → List ℕ → List PackedStep → Type 0
 PackedRun sigs links nodes [] = Unit {0}
 PackedRun sigs links nodes (s ∷ ss) =

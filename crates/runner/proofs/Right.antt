@@ -1,5 +1,5 @@
 -- Demand 3 of what is served: slips in turn are a run of calls, so every report, list and count, and the tables after each slip, are what
--- the ledger and the plain tree say; and so are its quotes after a rebuild those of any other index with the same set.
+-- the ledger and the plain tree say, and after a rebuild the counts of a search are those of any other index with the same set.
 -- Assumes nothing.
 use Prim.Native.Nat.{ℕ}
 use mathlib.Core.Path.{_≡_, refl}
