@@ -6,7 +6,7 @@ use tables::rows::{filed_of, next_of, signature_of};
 use tables::wide;
 
 // What a chain gave: whether it is fit, and the blocks left of those lent to it.
-#[derive(Drop)]
+#[derive(Clone, Copy)]
 pub struct Chained {
     pub fit: bool,
     pub left: u32,

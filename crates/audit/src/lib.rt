@@ -1,4 +1,6 @@
 // Audit: are the tables sound? It only reads, and on any words it ends after at most B rows, B - 1 nodes and B blocks on chains.
+#![tactic(auto)]
+
 mod answer;
 mod chain;
 mod free;

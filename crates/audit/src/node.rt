@@ -9,7 +9,7 @@ ghost use Rattle.audit.specs.Audit.{unfit, look_twin};
 use tables::forms::parts_of;
 
 // A node that may stand here: the weight of its position, and its two references. An unfit one has weight 0.
-#[derive(Drop)]
+#[derive(Clone, Copy)]
 pub struct Node {
     pub weight: u64,
     pub left: u32,

@@ -6,7 +6,7 @@ ghost use Rattle.audit.specs.Audit.{RowsFit, row_ok, rows_ok};
 use tables::rows::{filed_of, next_of, signature_of};
 
 // What the rows gave: whether they are fit, and the number of filed blocks.
-#[derive(Drop)]
+#[derive(Clone, Copy)]
 pub struct Rows {
     pub fit: bool,
     pub count: u32,

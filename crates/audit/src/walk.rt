@@ -9,7 +9,7 @@ use super::node::look;
 use tables::rows::signature_of;
 
 // The nodes, and the blocks on chains, that a walk may look at.
-#[derive(Drop)]
+#[derive(Clone, Copy)]
 pub struct Lent {
     pub nodes: u32,
     pub blocks: u32,
@@ -17,14 +17,14 @@ pub struct Lent {
 
 // What a subtree gave: what is left of that lent to it, and whether it is fit. The flag stands last: in front it would share eight bytes
 // with a count, and a copy of the whole would wait for both.
-#[derive(Drop)]
+#[derive(Clone, Copy)]
 pub struct Part {
     pub left: Lent,
     pub fit: bool,
 }
 
 // The positions tested on the path so far as a mask, and those of them where the right edge was taken.
-#[derive(Drop)]
+#[derive(Clone, Copy)]
 pub struct Tested {
     pub mask: u64,
     pub edges: u64,

@@ -1,4 +1,6 @@
 // Clear: the tables of an empty index, for signatures of a width.
+#![tactic(auto)]
+
 mod zeros;
 
 ghost use Rattle.std.specs.Prelude.{◌≤◌, ◌≡◌, length};

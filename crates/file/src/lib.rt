@@ -1,4 +1,6 @@
 // File: a block with its signature into the tables (document 01, "The calls").
+#![tactic(auto)]
+
 mod plan;
 mod question;
 mod store;

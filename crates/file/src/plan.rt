@@ -9,7 +9,7 @@ use tables::address;
 
 // Nothing, for unfit tables; the first leaf; the block after the head of a chain; or a node in the place of a leaf: the address of the
 // leaf's reference, the leaf, the node, its position and the side of it that the block goes to.
-#[derive(Drop)]
+#[derive(Clone, Copy)]
 pub enum Plan {
     Unfit,
     First,

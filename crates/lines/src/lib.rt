@@ -1,5 +1,7 @@
 // Lines: a report and its list of blocks as text. Each function puts bytes from a place on and answers the next place; a caller sees
 // to the room, so that no byte of a line is ever dropped.
+#![tactic(auto)]
+
 ghost use Rattle.std.specs.Prelude.{◌≡◌, [], ◌∷◌, ◌++◌, ◌+◌, ◌*◌, ◌≤◌, ◌<◌, length, take};
 ghost use Rattle.lines.specs.Text.{decimal, spaced, line_text, Puts};
 

@@ -5,7 +5,8 @@ use Prim.Native.Nat.{ℕ, zero, suc, ◌-◌, min}
 use native.Mathlib.Omega.{arith}
 use mathlib.Core.Path.{◌≡◌, refl, ◌∙◌, ap, ap₂}
 use mathlib.Core.List.{List, [], ◌∷◌}
-use lib.Dec.{eqb}
+use mathlib.Core.Bool.{true, false}
+use lib.Dec.{eqb, ltb}
 use lib.ListN.{length}
 use Rattle.model.specs.Basics.{keep, up_from}
 use Rattle.model.specs.Signature.{bit_at}
@@ -30,7 +31,7 @@ module _ (F : ℕ) (of : ℕ → ℕ) where
   among_same : (k l : List ℕ) → Same k l → (best : ℕ) (ps : List ℕ) → best_of F of k best ps ≡ best_of F of l best ps
   unfolding best_of
   among_same k l h best [] = refl
-  among_same k l h best (p ∷ ps) = rw (smaller_same best k l h, smaller_same p k l h) (among_same k l h _ ps)
+  among_same k l h best (p ∷ ps) = rw (smaller_same best k l h, smaller_same p k l h) (among_same k l h (elim (ltb (smaller F of best l) (smaller F of p l)) [ true ↦ p | false ↦ best ]) ps)
 
   pub best_same : (k l : List ℕ) → Same k l → best_position F of k ≡ best_position F of l
   best_same k l h = among_same k l h 1 (up_from (F - 1) 2)

@@ -34,7 +34,8 @@ tree_end L t (s ∷ ss) = tree_end (ledger_after L s.lent (reading s.request)) (
 -- where its first part ends, the claim is that about the rest
 claimed_rest : (L : Ledger) (t : Tree) (ss us : List Step) → Claimed L t (ss ++ us) → Claimed (ledger_end L ss) (tree_end L t ss) us
 claimed_rest L t [] us x = x
-claimed_rest L t (s ∷ ss) us x = claimed_rest _ _ ss us (s.left.signatures, s.left.links, x.2.1)
+claimed_rest L t (s ∷ ss) us x =
+    claimed_rest (ledger_after L s.lent (reading s.request)) (tree_after L t s.lent (reading s.request)) ss us (s.left.signatures, s.left.links, x.2.1)
 
 claimed_by : (L L' : Ledger) (t t' : Tree) (ss : List Step) → L ≡ L' → t ≡ t' → Claimed L t ss → Claimed L' t' ss
 claimed_by L L' t t' ss e f x = subst (λ (K : Ledger). Claimed K t' ss) e (subst (λ (u : Tree). Claimed L u ss) f x)

@@ -1,4 +1,6 @@
 // Rebuild: the heads of the tree are collected into the scratch, split into a new tree, and the nodes that it leaves are freed.
+#![tactic(auto)]
+
 mod collect;
 mod free;
 

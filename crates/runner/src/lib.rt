@@ -1,5 +1,7 @@
 // Serves slips from standard input and prints a line for each. The slices are the caller's: the three tables, those to work in, a buffer
 // of input and a buffer of text. A line is written as soon as its slip is complete, and no byte of it is dropped.
+#![tactic(auto)]
+
 mod input;
 mod text;
 
@@ -39,7 +41,7 @@ fn serve_one(
 }
 
 // Where a batch of slips ends, and how many bytes of text their lines are.
-#[derive(Drop)]
+#[derive(Clone, Copy)]
 struct BatchEnd {
     at: usize,
     used: usize,

@@ -1,4 +1,6 @@
 // Search: the list of the blocks that match a query, and its counts.
+#![tactic(auto)]
+
 mod budget;
 mod list;
 mod marking;
@@ -13,7 +15,7 @@ ghost use Rattle.search.specs.Search.{SizedPacked, found_twin};
 ghost use Rattle.search.specs.Reported.{reported};
 
 // What a search reports: the answer, 0 or the refusal, the blocks listed, the leaves compared and the bits read.
-#[derive(Drop)]
+#[derive(Clone, Copy)]
 pub struct Report {
     pub answer: u32,
     pub found: u32,

@@ -1,4 +1,6 @@
 // The bits of a signature: does it fit a width, one position of it, does it cover a query, where do two of them differ first.
+#![tactic(auto)]
+
 ghost use Rattle.std.specs.Prelude.{◌≡◌, ℕ, ◌^◌, ◌≤◌, ◌<◌, ltb, eqb};
 ghost use Rattle.std.specs.Int.Bits.{bit_and};
 ghost use Rattle.model.specs.Signature.{bit_at, coversb, first_difference};

@@ -1,4 +1,6 @@
 // Signs the worked examples and splits two texts, each result one line of text. tests/words/expected.py says what must come out.
+#![tactic(auto)]
+
 use libc::STDOUT_FILENO;
 
 // A word, then a number.

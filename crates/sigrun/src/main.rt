@@ -1,4 +1,6 @@
 // sigrun: serves slips from standard input on an index of 1,024 blocks, all words 0 at the start, and prints a line for each.
+#![tactic(auto)]
+
 fn main() {
     let mut signatures = [0u64; 1024];
     let mut links = [0u32; 2053];

@@ -1,4 +1,6 @@
 // sigrun as it is, on another input: random stores beside a linear scan.
+#![tactic(auto)]
+
 fn main() {
     let mut signatures = [0u64; 1024];
     let mut links = [0u32; 2053];

@@ -1,5 +1,7 @@
 // The public face: what C and Rust call, with plain numbers and slices. Each function hands on to the crate of its call, whose promise
 // it repeats; no function here asks anything of its caller.
+#![tactic(auto)]
+
 mod slip;
 
 ghost use Rattle.model.specs.PackedPromises.{PackedClear, PackedFile, PackedWithdraw, PackedRebuild, PackedSearch, PackedAudit, PackPromise, UnpackPromise};

@@ -1,4 +1,6 @@
 // Slips: sixteen bytes from software nobody here has seen. Questions 1 to 3 of document 01, and the call that a slip carries.
+#![tactic(auto)]
+
 ghost use Rattle.std.specs.Prelude.{◌≡◌, ◌+◌, ◌*◌, ◌≤◌, ◌<◌, length, eqb, ◌&&◌};
 ghost use Rattle.model.specs.Questions.{number_at, signature_in, ask_slip, read_kind, read_slip};
 ghost use Rattle.slips.specs.Order.{reading_of};
@@ -13,7 +15,7 @@ const UNKNOWN_KIND: u32 = 2;
 const FIELD_USED: u32 = 3;
 
 // What a slip comes to: refused with a number, or a call with its fields.
-#[derive(Drop)]
+#[derive(Clone, Copy)]
 pub enum Order {
     Refused(u32),
     Clear(u32),

@@ -1,5 +1,7 @@
 // A group of head blocks, one for each of its distinct signatures, becomes a tree: it is parted in place at the position where the
 // smaller side is largest, its node is written, and each half of it is lent to a call of its own.
+#![tactic(auto)]
+
 ghost use Rattle.std.specs.Prelude.{◌≡◌, ℕ, ◌+◌, ◌^◌, ◌<◌, ◌≤◌, length, List};
 ghost use Rattle.std.proofs.lemmas.List.Edits.{sets};
 ghost use Rattle.model.specs.Signature.{bit_at};
@@ -91,7 +93,7 @@ fn partition(signatures: &[u64], group: &mut [u32], width: u32, position: u32) -
 }
 
 // Where a group was split: at which position, and how many blocks have bit 0 there.
-#[derive(Drop)]
+#[derive(Clone, Copy)]
 pub struct Cut {
     pub position: u32,
     pub low: usize,

@@ -7,7 +7,7 @@ ghost use Rattle.tables.specs.Fits.{Forms, PartsOf};
 use crate::nodes::{left_in, position_in, right_in, word_of};
 
 // The position that a node tests, and its two references.
-#[derive(Drop)]
+#[derive(Clone, Copy)]
 pub struct Parts {
     pub position: u32,
     pub left: u32,

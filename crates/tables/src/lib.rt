@@ -1,4 +1,6 @@
 // The words of the tables: the one place in code that knows where a word stands, with question 4, and the walk by a signature's bits.
+#![tactic(auto)]
+
 pub mod address;
 pub mod forms;
 pub mod free;

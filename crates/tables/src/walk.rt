@@ -10,7 +10,7 @@ use crate::nodes::{left_in, position_in, right_in, word_of};
 
 // Where a walk ends: the address of the reference reached, 0 on an unfit node, and the reference; and the address of its parent's
 // reference, 0 where there is none, and the parent's node number.
-#[derive(Drop)]
+#[derive(Clone, Copy)]
 pub struct Walked {
     pub link: usize,
     pub above: usize,

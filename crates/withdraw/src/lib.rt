@@ -1,4 +1,6 @@
 // Withdraw: a block out of the tables (document 01, "The calls").
+#![tactic(auto)]
+
 mod ask;
 mod plan;
 mod store;

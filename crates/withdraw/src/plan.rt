@@ -10,7 +10,7 @@ use tables::nodes::TOO_LARGE;
 
 // What is stored besides the block's row and the count: nothing, for unfit tables; a reference or a next word at an address; or a
 // sibling in its parent's place (the address of the parent's reference, the parent's node number, the sibling's reference).
-#[derive(Drop)]
+#[derive(Clone, Copy)]
 pub enum Plan {
     Unfit,
     Relink(usize, u32),

@@ -1,4 +1,6 @@
 // Words: the splitter, which gives back a word of a text, and the signer, which gives the text's signature.
+#![tactic(auto)]
+
 mod question;
 mod signer;
 mod splitter;

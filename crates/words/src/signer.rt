@@ -4,7 +4,7 @@ ghost use Rattle.model.specs.Words.{triplet_position, text_signature};
 ghost use Rattle.words.specs.Pass.{Sets};
 
 // What a word has set so far: its own signature, and how many different positions that are.
-#[derive(Drop)]
+#[derive(Clone, Copy)]
 pub struct Own {
     pub bits: u64,
     pub count: u32,

@@ -6,14 +6,14 @@ ghost use Rattle.words.specs.Parts.{part_of};
 use crate::question::{LONGEST_TEXT, TOO_LONG};
 
 // Where a word stands: the bytes from start up to end.
-#[derive(Drop)]
+#[derive(Clone, Copy)]
 pub struct Place {
     pub start: usize,
     pub end: usize,
 }
 
 // The answer to a caller who names a word, and where the word stands.
-#[derive(Drop)]
+#[derive(Clone, Copy)]
 pub struct Found {
     pub answer: u32,
     pub start: usize,
