@@ -97,7 +97,7 @@ free_same B L L' r r' (i ∷ is) e o q =
 module _ (B : ℕ) (L : List ℕ) where
   pub free_range : (r : ℕ) (is : List ℕ) → FreeChain B L r is → (i : ℕ) → Memᴰ i is → (1 ≤ i) × (i < B)
   free_range r [] q i m = absurd (mathlib.Core.List.Memᴰ.not-nil m)
-  free_range r (j ∷ is) q i m = go (mathlib.Core.List.Memᴰ.cases_cons m) (free_range _ is q.5 i)
+  free_range r (j ∷ is) q i m = go (mathlib.Core.List.Memᴰ.cases_cons m) (free_range (word L (left_at B j)) is q.5 i)
     where
       go : (i ≡ j) ⊎ Memᴰ i is → (Memᴰ i is → (1 ≤ i) × (i < B)) → (1 ≤ i) × (i < B)
       go (inl e) ih = let a = q.1 in let b = q.2 in omega arith
@@ -114,7 +114,7 @@ module _ (B : ℕ) (L : List ℕ) where
 
   free_inside : (r : ℕ) (is : List ℕ) → FreeChain B L r is → (i : ℕ) → Memᴰ i is → (js : List ℕ) × FreeChain B L i js × (length js ≤ length is)
   free_inside r [] q i m = absurd (mathlib.Core.List.Memᴰ.not-nil m)
-  free_inside r (j ∷ is) q i m = go (mathlib.Core.List.Memᴰ.cases_cons m) (free_inside _ is q.5 i)
+  free_inside r (j ∷ is) q i m = go (mathlib.Core.List.Memᴰ.cases_cons m) (free_inside (word L (left_at B j)) is q.5 i)
     where
       go : (i ≡ j) ⊎ Memᴰ i is → (Memᴰ i is → (js : List ℕ) × FreeChain B L i js × (length js ≤ length is)) → (js : List ℕ) × FreeChain B L i js × (length js ≤ length (j ∷ is))
       go (inl e) ih = (j ∷ is, (e, q.1, q.2, q.3, q.4, q.5), omega arith)

@@ -13,8 +13,7 @@ use borrow.Author.Rules.{rules}
 use Rattle.model.specs.Signature.{bit_at}
 use Rattle.signature.proofs.Bits.{bits_equal, bit_zero, bit_above, xor_agree, xor_differ}
 use Rattle.signature.proofs.Difference.{IsFirst, first_is, first_unique}
-use Rattle.signature.proofs.first_difference.Statement.{statement}
-use Rattle.signature.proofs.first_difference.Tie as tie
+use Rattle.signature.proofs.first_difference.Goals as goal
 
 -- the highest set bit of the exclusive OR, and the position that the code makes of it
 record Top (F a b : ℕ) : Type 0 where
@@ -48,27 +47,18 @@ is-first F a b hF ha hb ne t =
       before = λ i p l. xor_agree F a b i (bit_above F (bit_xor a b) (suc t.k) i t.above (omega arith));
     }
 
-sub-result : tie.Need-overflow-sub-result
-sub-result c = search rules
-
-sub-result-2 : tie.Need-overflow-sub-result-2
-sub-result-2 c =
-    let t = top c.args.width c.args.a c.args.b c.requires.1 c.requires.2 c.requires.3 c.requires.4 in
+pub overflow_sub-result-2 : goal.overflow_sub-result-2
+overflow_sub-result-2 c =     let t = top c.args.width c.args.a c.args.b c.requires.1 c.requires.2 c.requires.3 c.requires.4 in
     omega (arith, t.count, t.inside)
 
-add-result : tie.Need-overflow-add-result
-add-result c =
-    let t = top c.args.width c.args.a c.args.b c.requires.1 c.requires.2 c.requires.3 c.requires.4 in
+pub overflow_add-result : goal.overflow_add-result
+overflow_add-result c =     let t = top c.args.width c.args.a c.args.b c.requires.1 c.requires.2 c.requires.3 c.requires.4 in
     omega (arith, t.count, t.inside)
 
-returns : tie.Need-returns
-returns c =
-    let F : ℕ = c.args.width in
+pub returns : goal.returns
+returns c =     let F : ℕ = c.args.width in
     let a : ℕ = c.args.a in
     let b : ℕ = c.args.b in
     let t : Top F a b = top F a b c.requires.1 c.requires.2 c.requires.3 c.requires.4 in
     let e : count_leading_zeros 64 (bit_xor a b) - (64 - F) + 1 ≡ F - t.k = omega (arith, t.count, t.inside) in
     e ∙ first_unique (is-first F a b c.requires.1 c.requires.2 c.requires.3 c.requires.4 t) (first_is F a b c.requires.2 c.requires.3 c.requires.4)
-
-pub first-difference-spec : {M : Type 1} → statement M
-first-difference-spec = tie.close (tie.spec sub-result sub-result-2 add-result returns)
