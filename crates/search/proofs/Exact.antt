@@ -80,6 +80,7 @@ marked_stays (b ∷ bs) m i l h = marked_stays bs (mark m b) i (rw length-set l)
     go (no d) = get_or-set_other m (b - 1) i 1 0 d ∙ h
 
 marked_in : (bs m : List ℕ) (b : ℕ) → Memᴰ b bs → b - 1 < length m → get_or (mark_all m bs) (b - 1) 0 ≡ 1
+marked_in [] m b n l = elim n [ ]
 marked_in (x ∷ bs) m b (mathlib.Core.List.Memᴰ.head e) l = rw (← e) (marked_stays bs (mark m b) (b - 1) (rw length-set l) (get_or-set_same m (b - 1) 1 0 l))
 marked_in (x ∷ bs) m b (mathlib.Core.List.Memᴰ.tail n) l = marked_in bs (mark m x) b n (rw length-set l)
 

@@ -138,6 +138,10 @@ pub record AtNode (sigs links nodes : List ℕ) (q w u : ℕ) (l : Budget) (m : 
   pub left : x ≡ left_in w
   pub right : y ≡ right_in w
 
+pub at_node : {sigs links nodes : List ℕ} {q w u : ℕ} {l : Budget} {m : List ℕ} {x y : ℕ} → SizedPacked sigs links nodes m q → (u ≡ 0 → ⊥) → (l.nodes ≡ 0 → ⊥) → Forking l → x ≡ left_in w → y ≡ right_in w
+    → AtNode sigs links nodes q w u l m x y
+at_node s u n f x y = record { sized = s; untested = u; some = n; forking = f; left = x; right = y }
+
 module _ {sigs links nodes : List ℕ} {q w u : ℕ} {l : Budget} {m : List ℕ} {x y : ℕ} (A : AtNode sigs links nodes q w u l m x y) where
   -- what a side does
   abbrev gives : ℕ → Budget × List ℕ → Budget × List ℕ

@@ -32,7 +32,7 @@ slice_at words i = (get_or words i (record { ref_ptr = (0, 0); now = [] })).now
 
 -- two references are one loan: what was lent behind the one comes back from behind the other
 abbrev pub SameLoan : {X : Type 0} → MutBor X → MutBor X → Type 0
-SameLoan a b = a.name ≡ b.name
+SameLoan a b = a.ghost_name ≡ b.ghost_name
 
 -- block b may be marked: it is 1 to B, filed, not yet marked, and its signature covers q
 unfoldable pub may_mark : List ℕ → List ℕ → ℕ → ℕ → List ℕ → Bool

@@ -57,6 +57,10 @@ pub record Known (F : ℕ) (sigs g after nodes : List ℕ) (p k i t : ℕ) : Typ
   pub halved : Halved F (signature_of sigs) g after p k
   pub many : 2 ≤ length g
 
+pub known : {F : ℕ} {sigs g after nodes : List ℕ} {p k i t : ℕ} → length g ≡ t → Group F sigs g → length sigs ≤ 65535 → length nodes + 1 ≡ length sigs → (1 ≤ i) × (i + length g ≤ length sigs + 1)
+    → Halved F (signature_of sigs) g after p k → 2 ≤ length g → Known F sigs g after nodes p k i t
+known e g s r n h m = record { measure = e; group = g; small = s; room = r; node = n; halved = h; many = m }
+
 -- the numbers in it: B blocks, a group of n blocks, after blocks after the split, k of them in the left half, and node i
 pub record Bounds (B n after k i : ℕ) : Type 0 where
   pub same : after ≡ n

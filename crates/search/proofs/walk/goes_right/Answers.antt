@@ -1,0 +1,15 @@
+-- `search::walk::goes_right` meets its contract: the shift is by less than 64, and the mask by 1 is the remainder by 2.
+-- Assumes nothing.
+use borrow.Author.Rules.{rules}
+use mathlib.Core.Path.{◌∙◌, ap}
+use Prim.Native.Nat.{ℕ, ◌+◌, ◌-◌, ◌/◌, ◌%◌, ◌^◌}
+use lib.Dec.{eqb}
+use lib.Bits.{and_mask}
+use Rattle.search.specs.Search.{side_at}
+use Rattle.search.proofs.walk.goes_right.Goals as goal
+
+pub returns : goal.returns
+unfolding side_at
+returns c =
+    ap (λ (n : ℕ). eqb n 1) (and_mask (c.args.query / 2 ^ ((c.args.width + 64 - c.position_in-position.result % 64) % 64)) 1)
+    ∙ ap (λ (p : ℕ). eqb (c.args.query / 2 ^ ((c.args.width + 64 - p % 64) % 64) % 2) 1) c.position_in-position.ensures

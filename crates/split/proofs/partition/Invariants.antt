@@ -1,0 +1,16 @@
+-- `split::partition` meets its contract: before `low` the bit is 0, from `end` on it is 1, and entries only change places.
+-- Assumes nothing.
+use Prim.Native.Nat.{◌-◌}
+use native.Mathlib.Omega.{arith}
+use mathlib.Core.Path.{sym, ◌∙◌}
+use lib.ListN.{length-set}
+use Rattle.model.specs.Tables.{signature_of}
+use Rattle.split.proofs.Parting.{Parting, parting_start, parting_low, parting_high, parting_block, parting_end}
+use borrow.Author.Rules.{rules}
+use Rattle.split.proofs.partition.Given as goal
+
+abbrev pub invariant-loop-low : goal.invariant-loop-low
+invariant-loop-low l = Parting l.width (signature_of l.signatures) l.position l.initial.group l.group l.low l.end
+
+abbrev pub decreases-loop-low : goal.decreases-loop-low
+decreases-loop-low l = l.end - l.low
