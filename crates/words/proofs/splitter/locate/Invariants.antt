@@ -1,0 +1,19 @@
+-- `locate` meets its contract: at each byte the word that is looked for is found in what is left, and each branch keeps that.
+-- Assumes nothing.
+use Prim.Native.Nat.{◌≤◌, ◌<◌, ◌-◌}
+use mathlib.Core.Path.{◌≡◌, ◌∙◌, sym, ap}
+use native.Mathlib.Nat.{le_antisymm}
+use mathlib.Core.Logic.{⊎_elim}
+use lib.ListN.{length}
+use Rattle.model.specs.Words.{word_at}
+use Rattle.words.proofs.Splitting.{rest, begins, goes_on, between, passed, is_found, ends_between, ends_short, ends_found, zeroth}
+use Rattle.words.proofs.Asked.{empty_part}
+use borrow.Author.Rules.{rules}
+use native.Mathlib.Omega.{arith}
+use Rattle.words.proofs.splitter.locate.Given as goal
+
+abbrev pub invariant-loop-i : goal.invariant-loop-i
+invariant-loop-i l = (l.start ≤ l.i) × (l.i ≤ length l.text) × (1 ≤ l.left) × (l.left ≤ l.n) × (rest l.text l.left l.start l.i ≡ word_at l.text l.n)
+
+abbrev pub decreases-loop-i : goal.decreases-loop-i
+decreases-loop-i l = length l.text - l.i
