@@ -138,6 +138,15 @@ module _ (sigs links nodes : List ℕ) (P : Packs (length sigs) links nodes) whe
   pub heads_read : heads_from (length sigs) (unpacked links nodes) (width_of links) (root_of links) ≡ heads_of sigs (unpacked links nodes)
   heads_read = ap₂ (λ (F r : ℕ). heads_from (length sigs) U F r) (sym width_read) (sym (front_word (length sigs) links nodes P 2 (omega arith)))
 
+  pub gathered : Sound sigs U → (l l1 : List ℕ) (d : ℕ) → length sigs ≤ length l → d ≡ 0 + length (heads_from (length sigs) U (width_of links) (root_of links))
+      → l1 ≡ sets l 0 (heads_from (length sigs) U (width_of links) (root_of links)) → Collected sigs U l l1 d
+  gathered S l l1 d room count list = record {
+    sound = S;
+    room = room;
+    count = count ∙ ap (λ (h : List ℕ). 0 + length h) heads_read;
+    list = list ∙ ap (sets l 0) heads_read;
+  }
+
   pub walk_read : Sound sigs (unpacked links nodes) → Walkable (length sigs) (unpacked links nodes) (width_of links) (root_of links)
   walk_read S = rw (← width_read, ← front_word (length sigs) links nodes P 2 (omega arith)) (sound_walk sigs U S)
 
