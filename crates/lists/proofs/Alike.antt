@@ -46,7 +46,7 @@ same_reports L t sigs links sigs' links' (s ∷ ss) (u ∷ us) a x y =
     let f : tree_after L t u.lent (reading u.request) ≡ tree_after L t s.lent (reading s.request) = sym (tree_alike L t s.lent u.lent a.1 (reading s.request) ∙ ap (tree_after L t u.lent) e) in
     let y' = subst (λ (v : Tree). Claim (ledger_after L s.lent (reading s.request)) v u.left.signatures u.left.links us) f
     (subst (λ (M : Ledger). Claim M (tree_after L t u.lent (reading u.request)) u.left.signatures u.left.links us) l y.1) in
-    ap₂ (λ (o : Report) (os : List Report). o ∷ os) r (same_reports _ _ s.left.signatures s.left.links u.left.signatures u.left.links ss us a.2 x.1 y')
+    ap₂ (λ (o : Report) (os : List Report). o ∷ os) r (same_reports (ledger_after L s.lent (reading s.request)) (tree_after L t s.lent (reading s.request)) s.left.signatures s.left.links u.left.signatures u.left.links ss us a.2 x.1 y')
 
 -- two runs of the same requests, from any tables that hold the same ledger and the same tree
 pub same_runs : (sigs links sigs' links' : List ℕ) (L : Ledger) (t : Tree) → Begins sigs links L t → Begins sigs' links' L t

@@ -38,7 +38,12 @@ carried (carries c) = 1
 
 -- a call that is carried out answers 0
 done_zero : (L : Ledger) (t : Tree) (c : Call) → (done_by L t c).answer ≡ 0
-done_zero L t c = elim c [ clear F ↦ refl | file b s ↦ refl | withdraw b ↦ refl | rebuild ↦ refl | search q ↦ refl | audit ↦ refl ]
+done_zero L t (clear F) = refl
+done_zero L t (file b s) = refl
+done_zero L t (withdraw b) = refl
+done_zero L t rebuild = refl
+done_zero L t (search q) = refl
+done_zero L t audit = refl
 
 module _ (L : Ledger) (t : Tree) (M : Memory) (o : Report) (M' : Memory) where
   -- a step that changes nothing
