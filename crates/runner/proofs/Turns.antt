@@ -5,7 +5,7 @@ use native.Mathlib.Omega.{arith}
 use mathlib.Core.Path.{◌≡◌, refl, sym, ◌∙◌, ap, ap₂, subst}
 use mathlib.Core.List.{List, [], ◌∷◌, ◌++◌, append-nil, append_assoc}
 use lib.ListN.{length, take, drop, length-append}
-use lib.Seq.{sets, sets-eq, take_at, length-take-le}
+use lib.Seq.{sets-eq, take_at, length-take-le}
 use Rattle.model.specs.PackedLists.{PackedMemory}
 use Rattle.lines.specs.Text.{Puts}
 use Rattle.runner.specs.Served.{Served, InTurn, none, after, line_of, slips_from, Batched, Drained, Ended, Ran}

@@ -1,17 +1,17 @@
 // The input: one read at a time into the room behind what is kept, and what is left moved to the front.
 ghost use Rattle.std.specs.Prelude.{◌≡◌, ◌-◌, ◌≤◌, length, take, drop};
 
-use libc::STDIN_FILENO;
+use std::io::Read;
 
 // One read after the first `kept` bytes: how many bytes there are then. A read that fails counts as the end.
-pub fn fill(bytes: &mut [u8], kept: usize) -> usize
+pub fn fill<R: Read>(reader: &mut R, bytes: &mut [u8], kept: usize) -> usize
     requires { kept ≤ length bytes.old }
     ensures { (kept ≤ result) × (result ≤ length bytes.old) }
 {
-    let part = &mut bytes[kept..];
-    let got = libc::read(STDIN_FILENO, part);
-    let n = io::count(got, part);
-    kept + n
+    match reader.read(&mut bytes[kept..]) {
+        Ok(n) => kept + n,
+        Err(_) => kept,
+    }
 }
 
 // Moves the bytes from `from` to `end` to the front, and answers how many they are.

@@ -1,4 +1,4 @@
-// Serves slips from standard input and prints a line for each. The slices are the caller's: the three tables, those to work in, a buffer
+// Serves slips from a reader and writes a line for each. The slices are the caller's: the three tables, those to work in, a buffer
 // of input and a buffer of text. A line is written as soon as its slip is complete, and no byte of it is dropped.
 #![tactic(auto)]
 
@@ -8,6 +8,8 @@ mod text;
 ghost use Rattle.std.specs.Prelude.{◌+◌, ◌-◌, ◌*◌, ◌≤◌, ◌<◌, length};
 ghost use Rattle.sigtree.specs.Face.{lent};
 ghost use Rattle.runner.specs.Served.{Served, Batched, Drained, Ended, Ran};
+
+use std::io::{Read, Write};
 
 // How long a slip is.
 const SLIP: usize = 16;
@@ -88,7 +90,8 @@ fn batch(
 }
 
 // Serves every whole slip of the first `end` bytes of input, and answers where the rest begins.
-fn drain(
+fn drain<W: Write>(
+    writer: &mut W,
     signatures: &mut [u64],
     links: &mut [u32],
     nodes: &mut [u64],
@@ -107,14 +110,15 @@ fn drain(
         let served = batch(
             signatures, links, nodes, scratch, marks, output, bytes, at, end, text,
         );
-        text::flush(text, served.used);
+        text::flush(writer, text, served.used);
         at = served.at;
     }
     at
 }
 
 // The last slip, which is short: the bytes that are left.
-fn last(
+fn last<W: Write>(
+    writer: &mut W,
     signatures: &mut [u64],
     links: &mut [u32],
     nodes: &mut [u64],
@@ -142,11 +146,13 @@ fn last(
         text,
         0,
     );
-    text::flush(text, used);
+    text::flush(writer, text, used);
 }
 
 // Serves slips until the input ends. Nothing says that it ends, so the loop counts its turns down from a number that no run uses up.
-fn serve_all(
+fn serve_all<R: Read, W: Write>(
+    reader: &mut R,
+    writer: &mut W,
     signatures: &mut [u64],
     links: &mut [u32],
     nodes: &mut [u64],
@@ -162,23 +168,25 @@ fn serve_all(
     let mut turns = u64::MAX;
     let mut kept = 0;
     while turns > 0 {
-        let end = input::fill(bytes, kept);
+        let end = input::fill(reader, bytes, kept);
         if end == kept {
             last(
-                signatures, links, nodes, scratch, marks, output, bytes, kept, text,
+                writer, signatures, links, nodes, scratch, marks, output, bytes, kept, text,
             );
             return;
         }
         let from = drain(
-            signatures, links, nodes, scratch, marks, output, bytes, end, text,
+            writer, signatures, links, nodes, scratch, marks, output, bytes, end, text,
         );
         kept = input::shift(bytes, from, end);
         turns -= 1;
     }
 }
 
-// Serves the slips of standard input. A text that has no room for a line serves none.
-pub fn serve(
+// Serves the slips of the reader. A text that has no room for a line serves none.
+pub fn serve<R: Read, W: Write>(
+    reader: &mut R,
+    writer: &mut W,
     signatures: &mut [u64],
     links: &mut [u32],
     nodes: &mut [u64],
@@ -197,6 +205,6 @@ pub fn serve(
         return;
     }
     serve_all(
-        signatures, links, nodes, scratch, marks, output, bytes, text,
+        reader, writer, signatures, links, nodes, scratch, marks, output, bytes, text,
     );
 }

@@ -1,7 +1,7 @@
 // sigrun as it is, on another input: random stores beside a linear scan.
 #![tactic(auto)]
 
-fn main() {
+fn main(rt: HostRuntime) {
     let mut signatures = [0u64; 1024];
     let mut links = [0u32; 2053];
     let mut nodes = [0u64; 1023];
@@ -11,6 +11,8 @@ fn main() {
     let mut input = [0u8; 65536];
     let mut text = [0u8; 65536];
     runner::serve(
+        &mut rt.stdin(),
+        &mut rt.stdout(),
         &mut signatures,
         &mut links,
         &mut nodes,

@@ -1,5 +1,5 @@
-// The public face: what C and Rust call, with plain numbers and slices. Each function hands on to the crate of its call, whose promise
-// it repeats; no function here asks anything of its caller.
+// The public face: the calls, with plain numbers and slices. Each function hands on to the crate of its call, whose promise it repeats;
+// no function here asks anything of its caller. The crate `sigtree_c` gives them to C and Rust.
 #![tactic(auto)]
 
 mod slip;
@@ -12,8 +12,7 @@ ghost use Rattle.model.specs.Words.{SignPromise, PlacePromise};
 pub use slip::carry_out;
 
 // Empties the index and sets its width.
-#[unsafe(no_mangle)]
-pub extern "C" fn sigtree_clear(
+pub fn sigtree_clear(
     signatures: &mut [u64],
     links: &mut [u32],
     nodes: &mut [u64],
@@ -25,8 +24,7 @@ pub extern "C" fn sigtree_clear(
 }
 
 // Files a block with its signature.
-#[unsafe(no_mangle)]
-pub extern "C" fn sigtree_file(
+pub fn sigtree_file(
     signatures: &mut [u64],
     links: &mut [u32],
     nodes: &mut [u64],
@@ -39,8 +37,7 @@ pub extern "C" fn sigtree_file(
 }
 
 // Takes a block out.
-#[unsafe(no_mangle)]
-pub extern "C" fn sigtree_withdraw(
+pub fn sigtree_withdraw(
     signatures: &mut [u64],
     links: &mut [u32],
     nodes: &mut [u64],
@@ -52,8 +49,7 @@ pub extern "C" fn sigtree_withdraw(
 }
 
 // Makes the tree anew.
-#[unsafe(no_mangle)]
-pub extern "C" fn sigtree_rebuild(
+pub fn sigtree_rebuild(
     signatures: &[u64],
     links: &mut [u32],
     nodes: &mut [u64],
@@ -65,8 +61,7 @@ pub extern "C" fn sigtree_rebuild(
 }
 
 // Lists the filed blocks whose signature covers the query.
-#[unsafe(no_mangle)]
-pub extern "C" fn sigtree_search<'b>(
+pub fn sigtree_search<'b>(
     signatures: &'b [u64],
     links: &[u32],
     nodes: &'b [u64],
@@ -87,42 +82,28 @@ pub extern "C" fn sigtree_search<'b>(
 }
 
 // Are the tables sound?
-#[unsafe(no_mangle)]
-pub extern "C" fn sigtree_audit(signatures: &[u64], links: &[u32], nodes: &[u64]) -> u32
+pub fn sigtree_audit(signatures: &[u64], links: &[u32], nodes: &[u64]) -> u32
     ensures { PackedAudit signatures.now links.now nodes.now result }
 {
     audit::audit(signatures, links, nodes)
 }
 
 // From tables of 5B + 2 links to packed ones.
-#[unsafe(no_mangle)]
-pub extern "C" fn sigtree_pack(
-    signatures: &[u64],
-    old: &[u32],
-    links: &mut [u32],
-    nodes: &mut [u64],
-) -> u32
+pub fn sigtree_pack(signatures: &[u64], old: &[u32], links: &mut [u32], nodes: &mut [u64]) -> u32
     ensures { PackPromise signatures.now old.now links.old nodes.old result links.new nodes.new }
 {
     convert::pack(signatures, old, links, nodes)
 }
 
 // And back.
-#[unsafe(no_mangle)]
-pub extern "C" fn sigtree_unpack(
-    signatures: &[u64],
-    links: &[u32],
-    nodes: &[u64],
-    old: &mut [u32],
-) -> u32
+pub fn sigtree_unpack(signatures: &[u64], links: &[u32], nodes: &[u64], old: &mut [u32]) -> u32
     ensures { UnpackPromise signatures.now links.now nodes.now old.old result old.new }
 {
     convert::unpack(signatures, links, nodes, old)
 }
 
 // Carries out a slip: any bytes of any length.
-#[unsafe(no_mangle)]
-pub extern "C" fn sigtree_slip(
+pub fn sigtree_slip(
     slip: &[u8],
     signatures: &mut [u64],
     links: &mut [u32],
@@ -144,16 +125,14 @@ pub extern "C" fn sigtree_slip(
 }
 
 // The signature of a text.
-#[unsafe(no_mangle)]
-pub extern "C" fn sigtree_sign(text: &[u8], width: u32, k: u32, answer: &mut u32) -> u64
+pub fn sigtree_sign(text: &[u8], width: u32, k: u32, answer: &mut u32) -> u64
     ensures { SignPromise width k text.now answer.new result }
 {
     words::sign(text, width, k, answer)
 }
 
 // Where word n of a text stands. It stands in for the splitter, whose returned part C cannot have.
-#[unsafe(no_mangle)]
-pub extern "C" fn sigtree_word(text: &[u8], n: u32, start: &mut usize, size: &mut usize) -> u32
+pub fn sigtree_word(text: &[u8], n: u32, start: &mut usize, size: &mut usize) -> u32
     ensures { PlacePromise text.now n result start.new size.new }
 {
     words::word_place(text, n, start, size)
