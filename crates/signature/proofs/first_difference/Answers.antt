@@ -37,8 +37,8 @@ highest F k x h l u =
     let e : F - (F - k) ≡ k = omega arith in
     ap (λ (n : ℕ). x / 2 ^ n % 2) e ∙ ap (λ (n : ℕ). n % 2) (div-eq_of_lt-le {k = 1} (2 ^ k) (omega arith) (omega (arith, pow-suc 2 k)))
 
-is-first : (F a b : ℕ) → F ≤ 64 → a < 2 ^ F → b < 2 ^ F → a ≢ b → (t : Top F a b) → IsFirst F a b (F - t.k)
-is-first F a b hF ha hb ne t =
+is_first : (F a b : ℕ) → F ≤ 64 → a < 2 ^ F → b < 2 ^ F → a ≢ b → (t : Top F a b) → IsFirst F a b (F - t.k)
+is_first F a b hF ha hb ne t =
     let h : t.k < F = t.inside in
     record {
       low = omega arith;
@@ -61,4 +61,4 @@ returns c =     let F : ℕ = c.args.width in
     let b : ℕ = c.args.b in
     let t : Top F a b = top F a b c.requires.1 c.requires.2 c.requires.3 c.requires.4 in
     let e : count_leading_zeros 64 (bit_xor a b) - (64 - F) + 1 ≡ F - t.k = omega (arith, t.count, t.inside) in
-    e ∙ first_unique (is-first F a b c.requires.1 c.requires.2 c.requires.3 c.requires.4 t) (first_is F a b c.requires.2 c.requires.3 c.requires.4)
+    e ∙ first_unique (is_first F a b c.requires.1 c.requires.2 c.requires.3 c.requires.4 t) (first_is F a b c.requires.2 c.requires.3 c.requires.4)

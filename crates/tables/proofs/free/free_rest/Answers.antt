@@ -15,8 +15,8 @@ use Rattle.tables.proofs.Freeing.{freed, free_end}
 use Rattle.tables.proofs.free.free_rest.Goals as goal
 
 -- the slices are as long after some turns
-still-packs : (B : ℕ) (links nodes nodes₀ : List ℕ) → length nodes ≡ length nodes₀ → Packs B links nodes₀ → Packs B links nodes
-still-packs B links nodes nodes₀ e P = record { rows_long = P.rows_long; nodes_long = omega (arith, P.nodes_long) }
+still_packs : (B : ℕ) (links nodes nodes₀ : List ℕ) → length nodes ≡ length nodes₀ → Packs B links nodes₀ → Packs B links nodes
+still_packs B links nodes nodes₀ e P = record { rows_long = P.rows_long; nodes_long = omega (arith, P.nodes_long) }
 
 pub loop-i-init : goal.loop-i-init
 loop-i-init c = (omega arith, omega arith, refl, λ links P. refl)
@@ -35,7 +35,7 @@ loop-i-preserved c =
       omega (arith, l.invariant.0),
       omega (arith, k),
       w.auto.nodes ∙ l.invariant.2,
-      (λ links P. freed c.args.blocks l.i c.free_from.result links l.nodes w.new.nodes _ (still-packs _ _ _ _ l.invariant.2 P) (omega (arith, l.invariant.0, p.0)) (omega (arith, k)) (omega (arith, c.free_from.ensures.upper_bound, p.2)) c.free_from.ensures.value w.ensures (l.invariant.3 links P)),
+      (λ links P. freed c.args.blocks l.i c.free_from.result links l.nodes w.new.nodes _ (still_packs _ _ _ _ l.invariant.2 P) (omega (arith, l.invariant.0, p.0)) (omega (arith, k)) (omega (arith, c.free_from.ensures.upper_bound, p.2)) c.free_from.ensures.value w.ensures (l.invariant.3 links P)),
     )
 
 pub set_node-requires-then-i-blocks : goal.set_node-requires-then-i-blocks
@@ -51,7 +51,7 @@ returns-then-i-blocks c links P =
     let k = c.if-i-blocks.true in
     let last : B ≤ l.i + 1 = omega (arith, c.loop-i-test.false) in
     free_end B (l.i + 1) (unpacked links c.set_node-then-i-blocks.new.nodes) _ (omega (arith, k, last))
-    (freed B l.i 0 links l.nodes c.set_node-then-i-blocks.new.nodes _ (still-packs _ _ _ _ l.invariant.2 P) (omega (arith, l.invariant.0, p.0)) (omega (arith, k)) (omega arith) (sym (free_none B (l.i + 1) last)) c.set_node-then-i-blocks.ensures (l.invariant.3 links P))
+    (freed B l.i 0 links l.nodes c.set_node-then-i-blocks.new.nodes _ (still_packs _ _ _ _ l.invariant.2 P) (omega (arith, l.invariant.0, p.0)) (omega (arith, k)) (omega arith) (sym (free_none B (l.i + 1) last)) c.set_node-then-i-blocks.ensures (l.invariant.3 links P))
 
 pub returns : goal.returns
 returns c links P =
