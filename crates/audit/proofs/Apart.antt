@@ -1,7 +1,7 @@
 -- Nothing stands twice: the blocks on a tree's chains, its nodes, and its nodes with the free ones. A node of the tree tests a
 -- position and a free one has 0 there, so they are apart.
 -- Assumes nothing.
-use Prim.Native.Nat.{ℕ, ◌+◌, ◌-◌, ◌≤◌, ◌<◌}
+use Prim.Native.Nat.{ℕ, ◌-◌, ◌≤◌, ◌<◌}
 use native.Mathlib.Omega.{arith}
 use mathlib.Core.Path.{◌≡◌, sym, subst}
 use mathlib.Core.Logic.{◌⊎◌, inl, inr}

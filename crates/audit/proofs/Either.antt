@@ -15,7 +15,7 @@ use Rattle.model.specs.Signature.{bit_at}
 use Rattle.model.specs.Tables.{word, width_of, root_of, next_of, filed_of, position_of, left_of, right_of}
 use Rattle.model.specs.Sound.{filed_up_to, FitsAt}
 use Rattle.model.specs.Packed.{rows_of, unpacked}
-use Rattle.model.specs.Questions.{asks_tables, audit_refusal, tables_fit}
+use Rattle.model.specs.Questions.{asks_tables, tables_fit}
 use Rattle.model.specs.Promises.{AuditPromise}
 use Rattle.model.specs.PackedPromises.{packed_fit, PackedAudit}
 use Rattle.model.proofs.Asking.{true_false, both}
@@ -26,7 +26,7 @@ use Rattle.audit.specs.declared.chain.Chained.{Chained}
 use Rattle.audit.specs.declared.walk.Lent.{Lent}
 use Rattle.audit.specs.declared.walk.Part.{Part}
 use Rattle.audit.specs.declared.walk.Tested.{Tested}
-use Rattle.audit.specs.Audit.{RowsFit, Fits, row_ok, rows_ok, block_ok, stuck, chain_twin, leaf_twin, unfit, look_twin, walk_twin, untested_all, tree_twin, soundb}
+use Rattle.audit.specs.Audit.{RowsFit, Fits, rows_ok, block_ok, stuck, chain_twin, leaf_twin, unfit, look_twin, walk_twin, untested_all, tree_twin, soundb}
 use Rattle.audit.proofs.ChainLaws.{block_yes}
 use Rattle.audit.proofs.WalkLaws.{look_wide, look_again, look_made}
 

@@ -3,7 +3,7 @@
 use Prim.Native.Nat.{ℕ, suc, ◌+◌, ◌-◌, ◌*◌, ◌≤◌}
 use native.Mathlib.Omega.{arith}
 use mathlib.Core.Path.{◌≡◌, sym, ◌∙◌, ap, ap₂}
-use mathlib.Core.List.{List, [], ◌∷◌, ◌++◌, append-nil}
+use mathlib.Core.List.{List, [], ◌++◌, append-nil}
 use lib.ListN.{length, set, take, drop, replicate, length-replicate, drop_of_length-le}
 use lib.Seq.{sets, sets-eq, drop-length, take_at}
 use Rattle.model.specs.Tables.{position_at}

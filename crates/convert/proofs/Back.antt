@@ -1,7 +1,7 @@
 -- There and back: tables that were packed and are unpacked again are what they were, and so are tables that were unpacked and are packed
 -- again. Both are said of the calls: the second one is not refused, and its target holds the first one's words.
 -- Assumes nothing.
-use Prim.Native.Nat.{ℕ, ◌≤◌}
+use Prim.Native.Nat.{ℕ}
 use native.Mathlib.Omega.{arith}
 use mathlib.Core.Path.{◌≡◌, refl, ◌∙◌, ap, ap₂, subst}
 use mathlib.Core.Logic.{⊎_elim}
@@ -11,7 +11,7 @@ use lib.Dec.{eqb}
 use lib.ListN.{length}
 use lib.Seq.{length-take-le}
 use borrow.Author.Tests.{le-leb, eq-eqb}
-use Rattle.model.specs.Limits.{most_blocks, widest}
+use Rattle.model.specs.Limits.{most_blocks}
 use Rattle.model.specs.Tables.{links_of}
 use Rattle.model.specs.Sound.{Sound}
 use Rattle.model.specs.Packed.{rows_of, unpacked, packed_links, packed_nodes}

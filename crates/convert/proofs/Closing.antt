@@ -6,14 +6,14 @@ use native.Mathlib.Omega.{arith}
 use mathlib.Core.Path.{◌≡◌, refl, sym, ◌∙◌, ap, ap₂, subst}
 use mathlib.Core.Logic.{◌≢◌, ⊎_elim}
 use mathlib.Core.Bool.{true, false}
-use mathlib.Core.List.{List, [], ◌∷◌, ◌++◌, append-nil}
+use mathlib.Core.List.{List, [], ◌++◌, append-nil}
 use lib.ListN.{length, get_or, set, take, drop, drop_of_length-le}
 use lib.Seq.{paste, paste-zero, paste-suc, take_all}
 use Rattle.model.specs.Tables.{links_of, position_of, left_of, right_of}
 use Rattle.model.specs.Sound.{Sound}
 use Rattle.model.specs.Questions.{asks_tables, audit_refusal}
 use Rattle.model.specs.Promises.{AuditPromise}
-use Rattle.model.specs.Packed.{node_word, rows_of, packed_links, packed_nodes}
+use Rattle.model.specs.Packed.{node_word, packed_nodes}
 use Rattle.model.specs.PackedPromises.{packed_fit, PackPromise}
 use Rattle.model.proofs.Asking.{true_false}
 use Rattle.tables.proofs.Fits.{packs}

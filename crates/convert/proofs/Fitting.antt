@@ -6,9 +6,9 @@ use mathlib.Core.Path.{◌≡◌, refl, sym, ◌∙◌, ap, subst}
 use mathlib.Core.Logic.{◌⊎◌, inl, inr}
 use mathlib.Core.List.Memᴰ
 use mathlib.Core.List.{List, [], ◌∷◌, ◌++◌, Memᴰ}
-use lib.ListN.{length, get_or, take, drop, length-drop}
+use lib.ListN.{length, get_or, drop, length-drop}
 use lib.Seq.{get_or-drop}
-use Rattle.model.specs.Tables.{word, links_of, position_at, left_at, right_at, position_of, left_of, right_of, free_of, root_of}
+use Rattle.model.specs.Tables.{links_of, position_at, left_at, right_at, position_of, left_of, right_of, free_of, root_of}
 use Rattle.model.specs.Tree.{Edge, edge}
 use Rattle.model.specs.Sound.{Shape, tip, fork, Rooted, none, some, Holds, HoldsRoot, Placed, PlacedRoot, nodes, nodes_in, FreeChain, SoundAt, Sound}
 use Rattle.model.specs.Packed.{node_word, closed, rows_of, unpacked, packed_links, packed_nodes}

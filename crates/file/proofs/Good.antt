@@ -1,7 +1,7 @@
 -- What a filing of sound tables has to give, whichever of its three ways it takes: the rows kept, sound tables, and the plain tree with the
 -- signature put in. Its ways stand in First, Joins and Splits.
 -- Assumes nothing.
-use Prim.Native.Nat.{ℕ, ◌-◌, ◌^◌, ◌≤◌, ◌<◌}
+use Prim.Native.Nat.{ℕ, ◌^◌, ◌≤◌, ◌<◌}
 use native.Mathlib.Omega.{arith}
 use mathlib.Core.Path.{◌≡◌, sym, ◌∙◌, ap}
 use mathlib.Core.Logic.{◌≢◌}

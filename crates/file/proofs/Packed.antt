@@ -7,12 +7,12 @@ use mathlib.Core.Logic.{◌≢◌}
 use mathlib.Core.Bool.{Bool, true, false, ◌&&◌}
 use mathlib.Core.List.{List, [], ◌∷◌}
 use lib.Dec.{ltb}
-use lib.ListN.{length, get_or, set, length-set}
-use Rattle.model.specs.Tables.{word, links_of, free_at, count_at, next_at, filed_at, position_at, side_at, width_of, free_of, count_of, next_of, filed_of, left_of}
+use lib.ListN.{length, get_or, set}
+use Rattle.model.specs.Tables.{free_at, count_at, next_at, filed_at, position_at, side_at, width_of, free_of, count_of, next_of, filed_of, left_of}
 use Rattle.model.specs.Signature.{bit_at, first_difference}
 use Rattle.model.specs.Stores.{◌↤◌, stores}
 use Rattle.model.specs.File.{filing_stores, first_stores, chain_stores, split_stores}
-use Rattle.model.specs.Questions.{Asked, ask, tables_fit, is_block, asks_tables, file_refusal}
+use Rattle.model.specs.Questions.{ask, tables_fit, is_block, asks_tables, file_refusal}
 use Rattle.model.specs.Promises.{FilePromise}
 use Rattle.model.specs.Packed.{left_in, rows_of, unpacked, Packs}
 use Rattle.model.specs.PackedPromises.{packed_fit, PackedFile}

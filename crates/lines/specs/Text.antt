@@ -1,6 +1,6 @@
 -- The text of a line: numbers in decimal, single spaces between them, a line feed at the end.
 -- Assumes nothing.
-use Rattle.std.specs.Prelude.{ℕ, zero, suc, ◌+◌, ◌/◌, ◌%◌, Bool, true, false, ◌≡◌, List, [], ◌∷◌, ◌++◌, ltb, length}
+use Rattle.std.specs.Prelude.{ℕ, zero, suc, ◌+◌, ◌/◌, ◌%◌, true, false, ◌≡◌, List, [], ◌∷◌, ◌++◌, ltb, length}
 use Rattle.std.proofs.lemmas.List.Edits.{sets}
 
 -- the ASCII digits of n in base ten, the most significant first; k bounds their number

@@ -1,7 +1,7 @@
 -- The four calls that change tables move sound ones as the ledger and the plain tree say: each by the theorems of its own crate. A
 -- filing of a stored signature leaves the tree, as `insert` does; a withdrawal takes the leaf away when no other pair is left.
 -- Assumes nothing.
-use Prim.Native.Nat.{ℕ, ◌-◌, ◌≤◌}
+use Prim.Native.Nat.{ℕ, ◌≤◌}
 use native.Mathlib.Omega.{arith}
 use mathlib.Core.Path.{◌≡◌, refl, sym, ◌∙◌, ap, subst}
 use mathlib.Core.Logic.{◌≢◌}

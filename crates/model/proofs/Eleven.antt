@@ -4,7 +4,7 @@ use Prim.Native.Nat.{ℕ, ◌≤◌}
 use native.Mathlib.Decide.{ℕ_discrete}
 use native.Mathlib.Omega.{arith}
 use mathlib.Core.Path.{◌≡◌, ap}
-use mathlib.Core.Logic.{◌⊎◌, ⊎_elim, ◌≢◌}
+use mathlib.Core.Logic.{⊎_elim, ◌≢◌}
 use mathlib.Core.Bool.{Bool, true, false}
 use Rattle.model.specs.Sound.{Sound}
 use Rattle.model.specs.Questions.{Asked, ask, clear_refusal, file_refusal, withdraw_refusal, rebuild_refusal, search_refusal, audit_refusal, Call, clear, file, withdraw, rebuild, search, audit, Work, refusal, asks_tables}

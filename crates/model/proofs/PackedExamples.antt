@@ -1,8 +1,8 @@
 -- Worked examples of packed tables, by computation.
 -- Assumes nothing.
-use Prim.Native.Nat.{ℕ, ◌-◌, ◌^◌}
+use Prim.Native.Nat.{◌-◌, ◌^◌}
 use mathlib.Core.Path.{◌≡◌, refl}
-use mathlib.Core.List.{List, [], ◌∷◌}
+use mathlib.Core.List.{[], ◌∷◌}
 use Rattle.model.specs.Packed.{node_word, opened, closed, unpacked, packed_links, packed_nodes}
 
 -- position 1, block 2 on the left, node 2 of five blocks on the right

@@ -1,14 +1,14 @@
 -- The laws of packing: a word is its parts, where the words of the tables stand in the packed slices, what a store there is to the
 -- tables, and that packing and unpacking undo each other.
 -- Assumes nothing.
-use Prim.Native.Nat.{ℕ, zero, suc, ◌+◌, ◌-◌, ◌*◌, ◌/◌, ◌%◌, ◌^◌, ◌≤◌, ◌<◌}
+use Prim.Native.Nat.{ℕ, zero, suc, ◌+◌, ◌-◌, ◌*◌, ◌^◌, ◌≤◌, ◌<◌}
 use native.Mathlib.Decide.{ℕ_discrete}
 use native.Mathlib.Omega.{arith}
-use mathlib.Core.Path.{◌≡◌, refl, sym, ◌∙◌, ap, ap₂, subst}
+use mathlib.Core.Path.{◌≡◌, refl, sym, ◌∙◌, ap, ap₂}
 use mathlib.Core.List.{List, [], ◌∷◌, ◌++◌}
-use lib.ListN.{length, get_or, set, take, drop, length-append, length-set, get_or-append, take-append-drop, length-drop}
+use lib.ListN.{length, get_or, set, take, drop, length-append, get_or-append, take-append-drop, length-drop}
 use lib.Seq.{get_or-append-add, set-append_left, take_at, drop_at}
-use Rattle.model.specs.Tables.{word, position_at, side_at, left_at, right_at, links_of, position_of, side_of, left_of, right_of}
+use Rattle.model.specs.Tables.{word, position_at, left_at, right_at, links_of, position_of, left_of, right_of}
 use Rattle.model.specs.Stores.{◌↤◌, stores}
 use Rattle.model.specs.Packed.{node_word, position_in, left_in, right_in, part_in, with_part, Packs, opened, closed, rows_of, unpacked, packed_links, packed_nodes}
 

@@ -1,7 +1,7 @@
 -- A search compares at most 2 to the number of zero bits: it branches only at positions not set in the query, and a path tests each
 -- position once, so each branching uses up one zero bit more.
 -- Assumes nothing.
-use Prim.Native.Nat.{ℕ, zero, suc, ◌-◌, ◌^◌, ◌≤◌, zero-le}
+use Prim.Native.Nat.{ℕ, suc, ◌-◌, ◌^◌, ◌≤◌, zero-le}
 use native.Mathlib.Nat.{pow-suc}
 use native.Mathlib.Omega.{arith}
 use mathlib.Core.Path.{◌≡◌, ap, subst}

@@ -1,7 +1,7 @@
 -- The split of Rebuild (document 01, "The calls"). It is said once for lists of any entries that have signatures, since the plain
 -- tree splits a list of signatures and the tables a list of head blocks: `of` gives an entry's signature.
 -- Assumes nothing.
-use Rattle.std.specs.Prelude.{ℕ, zero, suc, ◌-◌, min, Bool, true, false, List, [], ◌∷◌, eqb, ltb, length}
+use Rattle.std.specs.Prelude.{ℕ, zero, suc, ◌-◌, min, true, false, List, [], ◌∷◌, eqb, ltb, length}
 use Rattle.model.specs.Basics.{keep, up_from}
 use Rattle.model.specs.Signature.{bit_at}
 use Rattle.model.specs.Tree.{Tree, nothing, leaf, node}

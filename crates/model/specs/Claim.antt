@@ -1,6 +1,6 @@
 -- Demand 3 (document 01): the single claim about a whole list of calls. It compares with the ledger and the plain tree alone.
 -- Assumes nothing: this is the statement, and its proof stands elsewhere.
-use Rattle.std.specs.Prelude.{ℕ, zero, suc, ◌+◌, ◌-◌, ◌*◌, ◌^◌, ◌≤◌, ◌<◌, ◌≡◌, ◌≢◌, Bool, true, false, List, [], ◌∷◌, length, replicate}
+use Rattle.std.specs.Prelude.{ℕ, ◌+◌, ◌-◌, ◌*◌, ◌^◌, ◌≤◌, ◌<◌, ◌≡◌, ◌≢◌, true, List, [], ◌∷◌, length, replicate}
 use Rattle.model.specs.Limits.{most_blocks}
 use Rattle.model.specs.Basics.{has}
 use Rattle.model.specs.Signature.{zero_bits}
@@ -8,7 +8,7 @@ use Rattle.model.specs.Tree.{Tree, nothing, leaf, node, signatures, path, Agrees
 use Rattle.model.specs.Tables.{links_of, root_of, position_of, left_of, right_of, signature_of, tree_of}
 use Rattle.model.specs.Sound.{Sound}
 use Rattle.model.specs.Questions.{Work, search, Reading, carries}
-use Rattle.model.specs.Ledger.{Ledger, empty_ledger, is_stored, stored, matching, ledger_of, ledger_after, tree_after, Report, bare, report_by}
+use Rattle.model.specs.Ledger.{Ledger, empty_ledger, is_stored, stored, matching, ledger_of, ledger_after, tree_after, Report, report_by}
 use Rattle.model.specs.Promises.{marks_after, output_after}
 use Rattle.model.specs.Lists.{Memory, reading, Step, Run}
 

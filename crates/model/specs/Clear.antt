@@ -1,6 +1,6 @@
 -- The tables that Clear leaves (document 01, "The calls").
 -- Assumes nothing.
-use Rattle.std.specs.Prelude.{ℕ, zero, suc, ◌-◌, ◌*◌, Bool, true, false, List, [], ◌∷◌, ◌++◌, ltb, replicate}
+use Rattle.std.specs.Prelude.{ℕ, zero, suc, ◌-◌, ◌*◌, true, false, List, [], ◌∷◌, ◌++◌, ltb, replicate}
 
 -- node i where B blocks have such a node, else nothing: the first of the free nodes from i on
 unfoldable pub free_from : ℕ → ℕ → ℕ

@@ -1,7 +1,7 @@
 -- The tables that File leaves (document 01, "The calls"). The address of the word that holds a reference makes "takes the leaf's
 -- place" one store, at the root as at a node.
 -- Assumes nothing.
-use Rattle.std.specs.Prelude.{ℕ, zero, suc, ◌+◌, ◌-◌, Bool, true, false, List, [], ◌∷◌, eqb, leb, length, set}
+use Rattle.std.specs.Prelude.{ℕ, zero, suc, ◌+◌, ◌-◌, true, false, List, [], ◌∷◌, eqb, leb, length, set}
 use Rattle.model.specs.Signature.{bit_at, first_difference}
 use Rattle.model.specs.Tables.{word, root_at, free_at, count_at, next_at, filed_at, position_at, side_at, width_of, free_of, count_of, next_of, position_of, left_of, signature_of}
 use Rattle.model.specs.Stores.{Store, ◌↤◌, stores}

@@ -2,7 +2,7 @@
 -- and every slice that it is lent, from the slices as they were (sigs) to the slices as they are left (sigs'). Every call has three
 -- cases: a question refuses; the tables are sound; and what must hold of any tables. There is no fourth.
 -- Assumes nothing.
-use Rattle.std.specs.Prelude.{ℕ, zero, suc, ◌-◌, ◌≤◌, ◌≡◌, ◌≢◌, ◌⊎◌, Bool, true, false, length, drop}
+use Rattle.std.specs.Prelude.{ℕ, zero, suc, ◌-◌, ◌≤◌, ◌≡◌, ◌≢◌, ◌⊎◌, true, false, length, drop}
 use mathlib.Core.List.{List, [], ◌∷◌, ◌++◌, Memᴰ}
 use Rattle.model.specs.Basics.{has, Ascending}
 use Rattle.model.specs.Signature.{coversb}

@@ -2,7 +2,7 @@
 -- Questions 4 to 10 are asked of the tables' words or of the ledger: `Asked` is what either has to say. Question 11, are the
 -- tables sound, is asked in the promises.
 -- Assumes nothing.
-use Rattle.std.specs.Prelude.{ℕ, zero, suc, ◌+◌, ◌*◌, ◌^◌, Bool, true, false, not, ◌&&◌, List, [], ◌∷◌, eqb, leb, ltb, length, get_or}
+use Rattle.std.specs.Prelude.{ℕ, zero, suc, ◌+◌, ◌*◌, ◌^◌, Bool, true, false, not, ◌&&◌, List, eqb, leb, ltb, length, get_or}
 use Rattle.model.specs.Limits.{widest, most_blocks}
 use Rattle.model.specs.Tables.{links_of, width_of, told_blocks, filed_of}
 

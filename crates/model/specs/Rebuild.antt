@@ -1,7 +1,7 @@
 -- The links that Rebuild leaves (document 01, "The calls"); the signatures, the rows and the count stay. A group is a list of head
 -- blocks, one for each of its distinct signatures.
 -- Assumes nothing.
-use Rattle.std.specs.Prelude.{ℕ, zero, suc, ◌+◌, ◌-◌, ◌*◌, max, Bool, true, false, List, [], ◌∷◌, ◌++◌, eqb, leb, length, take, drop}
+use Rattle.std.specs.Prelude.{ℕ, zero, suc, ◌+◌, ◌-◌, ◌*◌, max, true, false, List, [], ◌∷◌, ◌++◌, eqb, leb, length, take, drop}
 use Rattle.model.specs.Tables.{width_of, root_of, count_of, left_of, right_of, signature_of}
 use Rattle.model.specs.Build.{side, best_position}
 use Rattle.model.specs.Clear.{free_from, free_nodes}

@@ -1,11 +1,11 @@
 -- Sound tables (document 01, "The tables"), clause by clause. The tree that the links spell is carried as data, so that a clause
 -- about "each node met from the root" is a predicate by recursion on it. That nodes and blocks are distinct is implied, not said.
 -- Assumes nothing.
-use Rattle.std.specs.Prelude.{ℕ, zero, suc, ◌+◌, ◌*◌, ◌^◌, ◌≤◌, ◌<◌, ◌≡◌, ◌⊎◌, length}
+use Rattle.std.specs.Prelude.{ℕ, zero, suc, ◌+◌, ◌^◌, ◌≤◌, ◌<◌, ◌≡◌, ◌⊎◌, length}
 use mathlib.Core.List.{List, [], ◌∷◌, ◌++◌, Memᴰ}
 use Rattle.model.specs.Limits.{widest, most_blocks}
 use Rattle.model.specs.Tree.{Edge, edge, Agrees, Untested}
-use Rattle.model.specs.Tables.{links_of, width_of, told_blocks, root_of, free_of, count_of, next_of, filed_of, position_of, side_of, left_of, right_of, signature_of}
+use Rattle.model.specs.Tables.{links_of, width_of, told_blocks, root_of, free_of, count_of, next_of, filed_of, position_of, left_of, right_of, signature_of}
 
 -- What the links spell from a reference: a leaf with the head of its chain and the blocks after it, or node i with its position and its two sides.
 pub data Shape : Type 0 where

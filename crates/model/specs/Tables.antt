@@ -1,7 +1,7 @@
 -- The tables (document 01, "The tables"): the words of the two lent slices, as lists. B is the number of blocks.
 -- One place knows where a word stands; all else reads rows, nodes and signatures through the readers below.
 -- Assumes nothing.
-use Rattle.std.specs.Prelude.{ℕ, zero, suc, ◌+◌, ◌-◌, ◌*◌, Bool, true, false, List, [], ◌∷◌, eqb, leb, length, get_or}
+use Rattle.std.specs.Prelude.{ℕ, zero, suc, ◌+◌, ◌-◌, ◌*◌, true, false, List, eqb, leb, length, get_or}
 use Rattle.model.specs.Tree.{Tree, nothing, leaf, node}
 
 -- word a of the links

@@ -1,7 +1,7 @@
 -- The plain tree (document 01, "The calls"): what the index is, apart from how it is stored.
 -- This file and Signature.antt are what a reader needs to know what a search compares.
 -- Assumes nothing.
-use Rattle.std.specs.Prelude.{ℕ, zero, suc, ◌+◌, ◌≡◌, ◌≢◌, Bool, true, false, not, ◌&&◌, List, [], ◌∷◌, ◌++◌, eqb}
+use Rattle.std.specs.Prelude.{ℕ, ◌+◌, ◌≡◌, ◌≢◌, Bool, true, false, not, ◌&&◌, List, [], ◌∷◌, ◌++◌, eqb}
 use Rattle.model.specs.Basics.{keep, has}
 use Rattle.model.specs.Signature.{bit_at, first_difference}
 

@@ -1,6 +1,6 @@
 -- The tables that Withdraw leaves (document 01, "The calls").
 -- Assumes nothing.
-use Rattle.std.specs.Prelude.{ℕ, zero, suc, ◌-◌, Bool, true, false, List, [], ◌∷◌, eqb, leb, length, set}
+use Rattle.std.specs.Prelude.{ℕ, zero, suc, ◌-◌, true, false, List, [], ◌∷◌, eqb, leb, length, set}
 use Rattle.model.specs.Signature.{bit_at}
 use Rattle.model.specs.Tables.{word, root_at, free_at, count_at, next_at, filed_at, position_at, side_at, left_at, right_at, width_of, root_of, free_of, count_of, next_of, position_of, signature_of}
 use Rattle.model.specs.Stores.{Store, ◌↤◌, stores}

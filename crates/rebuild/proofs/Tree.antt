@@ -1,7 +1,7 @@
 -- The rebuilt shape's plain tree is the tree made anew from the heads' signatures: splitting blocks by their signatures, and
 -- splitting the signatures themselves, are the same choices.
 -- Assumes nothing.
-use Prim.Native.Nat.{ℕ, suc, ◌+◌, ◌-◌, ◌≤◌, min}
+use Prim.Native.Nat.{ℕ, suc, ◌-◌, ◌≤◌, min}
 use native.Mathlib.Decide.{ℕ_discrete}
 use native.Mathlib.Omega.{arith}
 use mathlib.Core.Path.{◌≡◌, refl, sym, ◌∙◌, ap, ap₂}

@@ -1,6 +1,6 @@
 -- What an order means in document 01's terms.
 -- Assumes nothing.
-use Rattle.model.specs.Questions.{Call, clear, file, withdraw, rebuild, search, Reading, refused, carries}
+use Rattle.model.specs.Questions.{clear, file, withdraw, rebuild, search, Reading, refused, carries}
 use Rattle.slips.specs.declared.Order.{Order}
 use Rattle.slips.specs.declared.Order.TheVariants.{Refused, Clear, File, Withdraw, Rebuild, Search}
 

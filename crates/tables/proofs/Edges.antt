@@ -7,10 +7,10 @@ use mathlib.Core.Logic.{◌⊎◌, inl, inr}
 use mathlib.Core.List.{List}
 use lib.ListN.{get_or}
 use Rattle.model.specs.Signature.{bit_at}
-use Rattle.model.specs.Tables.{position_of, side_of, left_of, right_of}
+use Rattle.model.specs.Tables.{position_of, side_of}
 use Rattle.model.specs.Packed.{position_in, part_in, unpacked, Packs}
 use Rattle.model.proofs.Packing.{node_position, node_left, node_right, part_left, part_right}
-use Rattle.tables.specs.Walk.{NodeFits, EdgeOf, EdgeIn}
+use Rattle.tables.specs.Walk.{EdgeOf, EdgeIn}
 
 le_cases : (e : ℕ) → e ≤ 1 → (e ≡ 0) ⊎ (e ≡ 1)
 le_cases zero h = inl refl

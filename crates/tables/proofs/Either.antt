@@ -1,12 +1,12 @@
 -- The laws of either form.
 -- Assumes nothing.
-use Prim.Native.Nat.{ℕ, ◌+◌, ◌-◌, ◌≤◌, ◌<◌}
+use Prim.Native.Nat.{ℕ, ◌-◌, ◌≤◌, ◌<◌}
 use native.Mathlib.Omega.{arith}
-use mathlib.Core.Path.{◌≡◌, refl, sym, ◌∙◌, ap}
-use mathlib.Core.Logic.{◌⊎◌, inl, inr, ◌≢◌}
+use mathlib.Core.Path.{◌≡◌, sym, ◌∙◌, ap}
+use mathlib.Core.Logic.{inl, inr, ◌≢◌}
 use mathlib.Core.List.{List, [], ◌∷◌, append-nil}
 use lib.ListN.{length, get_or}
-use Rattle.model.specs.Tables.{word, links_of, position_at, left_at, right_at, position_of, left_of, right_of}
+use Rattle.model.specs.Tables.{word, position_at, left_at, right_at, position_of, left_of, right_of}
 use Rattle.model.specs.Packed.{position_in, left_in, right_in, opened, rows_of, unpacked, Packs}
 use Rattle.model.proofs.Packing.{row_word, node_position, node_left, node_right}
 use Rattle.tables.specs.Fits.{Forms, PartsOf}

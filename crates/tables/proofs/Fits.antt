@@ -1,6 +1,6 @@
 -- Question 4's test is the fact that the tables fit, both ways: each part of the test is a comparison, and its answer is the fact.
 -- Assumes nothing.
-use Prim.Native.Nat.{ℕ, ◌+◌, ◌-◌, ◌≤◌, ◌<◌}
+use Prim.Native.Nat.{ℕ, ◌+◌, ◌-◌, ◌≤◌}
 use native.Mathlib.Omega.{arith}
 use mathlib.Core.Path.{◌≡◌, refl, sym, ◌∙◌, ap}
 use mathlib.Core.Logic.{◌↔◌}
@@ -10,7 +10,7 @@ use lib.Dec.{eqb}
 use lib.ListN.{length}
 use borrow.Author.Tests.{eq-eqb, le-leb, eqb-true}
 use Rattle.model.specs.Limits.{widest, most_blocks}
-use Rattle.model.specs.Tables.{links_of, width_of, told_blocks, filed_at}
+use Rattle.model.specs.Tables.{links_of, width_of, told_blocks}
 use Rattle.model.specs.Sound.{FitsAt}
 use Rattle.model.specs.Questions.{ask, blocks_fit, width_fits, asks_tables, tables_fit}
 use Rattle.model.specs.Packed.{rows_of, unpacked, Packs}

@@ -1,7 +1,7 @@
 -- Another shape in the place of the part that a way leads to: the links spell it, it is placed, and what it holds. The words outside the
 -- part stay, and no node and no block stands twice, so the sides that the way does not take are as before.
 -- Assumes nothing.
-use Prim.Native.Nat.{ℕ, ◌+◌, ◌-◌, ◌≤◌}
+use Prim.Native.Nat.{ℕ, ◌-◌, ◌≤◌}
 use native.Mathlib.Omega.{arith}
 use mathlib.Core.Path.{◌≡◌, refl, sym, ◌∙◌, subst}
 use mathlib.Core.Logic.{◌⊎◌, inl, inr, ◌≢◌}

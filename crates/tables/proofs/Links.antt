@@ -1,7 +1,7 @@
 -- The addresses of a shape's references: that of the shape itself, and the side words of its nodes. No two nodes share a side word,
 -- and no side word is a word of the front, of a row or of a position: addresses are sums that omega tells apart.
 -- Assumes nothing.
-use Prim.Native.Nat.{ℕ, ◌-◌, ◌≤◌, ◌<◌}
+use Prim.Native.Nat.{ℕ, ◌≤◌, ◌<◌}
 use native.Mathlib.Omega.{arith}
 use mathlib.Core.Path.{◌≡◌, refl, sym, ◌∙◌}
 use mathlib.Core.Logic.{◌⊎◌, inl, inr, ◌≢◌}

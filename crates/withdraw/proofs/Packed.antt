@@ -1,21 +1,20 @@
 -- A withdrawal of packed tables, by that of the tables that they hold: the questions, the plan and the stores, as the code reads and makes
 -- them.
 -- Assumes nothing.
-use Prim.Native.Nat.{ℕ, ◌+◌, ◌-◌, ◌^◌, ◌≤◌, ◌<◌}
+use Prim.Native.Nat.{ℕ, ◌-◌, ◌^◌, ◌≤◌, ◌<◌}
 use native.Mathlib.Omega.{arith}
-use mathlib.Core.Path.{◌≡◌, refl, sym, ◌∙◌, ap, ap₂, subst}
+use mathlib.Core.Path.{◌≡◌, refl, sym, ◌∙◌, ap, subst}
 use mathlib.Core.Logic.{◌≢◌, ◌⊎◌, inl, inr}
-use mathlib.Core.Bool.{Bool, true, false, ◌&&◌, not}
+use mathlib.Core.Bool.{Bool, true, false, ◌&&◌}
 use mathlib.Core.List.Memᴰ
 use mathlib.Core.List.{List, [], ◌∷◌, Memᴰ}
-use lib.ListN.{length, get_or, set, length-set}
+use lib.ListN.{length, set}
 use borrow.Author.Tests.{eq-eqb, ne_eqb}
-use Rattle.model.specs.Tables.{word, links_of, free_at, count_at, next_at, filed_at, position_at, left_at, right_at, width_of, free_of, count_of, next_of, filed_of}
-use Rattle.model.specs.Sound.{Chain, FreeChain, Sound, SoundAt}
+use Rattle.model.specs.Tables.{free_at, count_at, next_at, filed_at, position_at, left_at, right_at, width_of, free_of, count_of, next_of, filed_of}
+use Rattle.model.specs.Sound.{Chain, FreeChain, Sound}
 use Rattle.model.specs.Stores.{◌↤◌, stores}
 use Rattle.model.specs.Withdraw.{withdrawal_stores, raise_stores}
-use Rattle.model.specs.Questions.{Asked, ask, tables_fit, is_block, asks_tables, withdraw_refusal}
-use Rattle.model.specs.Promises.{WithdrawPromise}
+use Rattle.model.specs.Questions.{ask, tables_fit, is_block, asks_tables, withdraw_refusal}
 use Rattle.model.specs.Packed.{node_word, rows_of, unpacked, Packs}
 use Rattle.model.specs.PackedPromises.{packed_fit, PackedWithdraw}
 use Rattle.model.proofs.Asking.{true_false, both, in_range, ask_zero}
@@ -23,7 +22,7 @@ use Rattle.model.proofs.Packing.{row_word, row_store, front_word, node_store}
 use Rattle.model.proofs.Stores.{length_stores}
 use Rattle.tables.specs.Walk.{Ends}
 use Rattle.tables.specs.Fits.{FitsPacked}
-use Rattle.tables.proofs.Fits.{packs, packed_no, packed_yes}
+use Rattle.tables.proofs.Fits.{packed_no, packed_yes}
 use Rattle.tables.proofs.Stays.{rows_stores, changes_stay}
 use Rattle.withdraw.specs.Asking.{Passed, PassedPacked, Withdraws}
 use Rattle.withdraw.specs.Plan.{PlanFits}

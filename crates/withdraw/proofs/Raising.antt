@@ -2,7 +2,7 @@
 -- first free node: no word of the sibling changes, and the parent stands nowhere else in the tree. Where the leaf is the whole tree,
 -- the root becomes 0. Either way the plain tree loses that leaf.
 -- Assumes nothing.
-use Prim.Native.Nat.{ℕ, ◌+◌, ◌-◌, ◌≤◌, ◌<◌}
+use Prim.Native.Nat.{ℕ, ◌-◌, ◌≤◌, ◌<◌}
 use native.Mathlib.Omega.{arith}
 use mathlib.Core.Path.{◌≡◌, refl, sym, ◌∙◌, ap, subst}
 use mathlib.Core.Logic.{◌⊎◌, inl, inr, ◌≢◌}

@@ -1,8 +1,6 @@
 -- `audit::audit` meets its contract: each answer is the definition's, which keeps the promise.
 -- Assumes nothing.
-use borrow.Author.Rules.{rules}
 use mathlib.Core.Path.{refl, sym, ◌∙◌, subst}
-use borrow.Author.Tests.{not-true, not-false}
 use Rattle.model.specs.Promises.{AuditPromise}
 use Rattle.audit.proofs.Verdict.{refused, found_sound, found_unsound, promised}
 use Rattle.audit.proofs.Either.{fits_either, fit_yes, audit_unfit, audit_asked}

@@ -1,10 +1,6 @@
 -- `audit::audit_unpacked` meets its contract.
 -- Assumes nothing.
-use borrow.Author.Rules.{rules}
-use native.Mathlib.Omega.{arith}
-use mathlib.Core.Path.{refl, sym, ◌∙◌, subst}
-use lib.ListN.{length, take, drop}
-use borrow.Author.Tests.{not-true, not-false}
+use mathlib.Core.Path.{sym, ◌∙◌, subst}
 use Rattle.model.specs.Promises.{AuditPromise}
 use Rattle.audit.proofs.Verdict.{refused, found_sound, found_unsound, promised}
 use Rattle.audit.proofs.Either.{fits_unpacked, sound_unpacked, none_long}

@@ -3,8 +3,6 @@
 use native.Mathlib.Omega.{arith}
 use mathlib.Core.Path.{sym, ◌∙◌, ap}
 use lib.ListN.{length}
-use borrow.Author.Rules.{rules}
-use borrow.Author.Tests.{not-true, not-false}
 use Rattle.tables.proofs.Fits.{packs_of}
 use Rattle.clear.proofs.Filling.{rows_length, cleared_tables}
 use Rattle.clear.proofs.Promised.{refuses_packed, refuses_packed_width, clears_packed}

@@ -2,7 +2,6 @@
 -- Assumes nothing.
 use lib.ListN.{length-set}
 use native.Mathlib.Omega.{arith}
-use borrow.Author.Rules.{rules}
 use Rattle.clear.proofs.Filling.{cleared_rows}
 use Rattle.clear.proofs.clear_links.Goals as goal
 

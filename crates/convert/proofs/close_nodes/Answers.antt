@@ -1,11 +1,7 @@
 -- `convert::close_nodes` meets its contract. The invariant: the nodes before node i are packed.
 -- Assumes nothing.
-use borrow.Author.Rules.{rules}
-use Prim.Native.Nat.{ℕ, ◌+◌, ◌-◌, ◌≤◌}
 use native.Mathlib.Omega.{arith}
-use mathlib.Core.Path.{◌≡◌, refl, sym, ◌∙◌, ap}
-use lib.ListN.{length}
-use lib.Seq.{paste, paste-zero}
+use mathlib.Core.Path.{refl, ◌∙◌}
 use Rattle.model.specs.Packed.{packed_nodes}
 use Rattle.convert.proofs.Closing.{close_start, close_turn, close_end}
 use Rattle.convert.proofs.close_nodes.Goals as goal

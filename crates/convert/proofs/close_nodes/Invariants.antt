@@ -1,13 +1,10 @@
 -- `convert::close_nodes` meets its contract. The invariant: the nodes before node i are packed.
 -- Assumes nothing.
-use borrow.Author.Rules.{rules}
-use Prim.Native.Nat.{ℕ, ◌+◌, ◌-◌, ◌≤◌}
-use native.Mathlib.Omega.{arith}
-use mathlib.Core.Path.{◌≡◌, refl, sym, ◌∙◌, ap}
+use Prim.Native.Nat.{◌-◌, ◌≤◌}
+use mathlib.Core.Path.{◌≡◌}
 use lib.ListN.{length}
-use lib.Seq.{paste, paste-zero}
+use lib.Seq.{paste}
 use Rattle.model.specs.Packed.{packed_nodes}
-use Rattle.convert.proofs.Closing.{close_start, close_turn, close_end}
 use Rattle.convert.proofs.close_nodes.Given as goal
 
 abbrev pub invariant-loop-i : goal.invariant-loop-i

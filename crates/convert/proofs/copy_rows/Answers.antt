@@ -1,10 +1,8 @@
 -- `convert::copy_rows` meets its contract. The invariant: the first i words are copied.
 -- Assumes nothing.
-use borrow.Author.Rules.{rules}
-use Prim.Native.Nat.{ℕ, ◌-◌, ◌≤◌}
 use native.Mathlib.Omega.{arith}
 use mathlib.Core.Path.{◌≡◌, refl, ◌∙◌, ap}
-use lib.ListN.{length, length-set}
+use lib.ListN.{length-set}
 use lib.Seq.{paste, paste-zero}
 use Rattle.convert.proofs.Copying.{copy_turn}
 use Rattle.convert.proofs.copy_rows.Goals as goal

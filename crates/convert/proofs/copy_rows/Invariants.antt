@@ -1,12 +1,9 @@
 -- `convert::copy_rows` meets its contract. The invariant: the first i words are copied.
 -- Assumes nothing.
-use borrow.Author.Rules.{rules}
-use Prim.Native.Nat.{ℕ, ◌-◌, ◌≤◌}
-use native.Mathlib.Omega.{arith}
-use mathlib.Core.Path.{◌≡◌, refl, ◌∙◌, ap}
-use lib.ListN.{length, length-set}
-use lib.Seq.{paste, paste-zero}
-use Rattle.convert.proofs.Copying.{copy_turn}
+use Prim.Native.Nat.{◌-◌, ◌≤◌}
+use mathlib.Core.Path.{◌≡◌}
+use lib.ListN.{length}
+use lib.Seq.{paste}
 use Rattle.convert.proofs.copy_rows.Given as goal
 
 abbrev pub invariant-loop-i : goal.invariant-loop-i

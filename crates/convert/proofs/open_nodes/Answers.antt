@@ -1,12 +1,7 @@
 -- `convert::open_nodes` meets its contract: the words still to be written, from the node reached on, make the same links.
 -- Assumes nothing.
-use borrow.Author.Rules.{rules}
-use Prim.Native.Nat.{ℕ, ◌+◌, ◌-◌, ◌*◌, ◌≤◌}
 use native.Mathlib.Omega.{arith}
-use mathlib.Core.Path.{◌≡◌, refl, sym, ◌∙◌, ap}
-use lib.ListN.{length, drop}
-use lib.Seq.{sets}
-use Rattle.model.specs.Packed.{opened}
+use mathlib.Core.Path.{refl, ◌∙◌}
 use Rattle.convert.proofs.Opening.{open_start, open_turn, open_end}
 use Rattle.convert.proofs.open_nodes.Goals as goal
 

@@ -1,13 +1,10 @@
 -- `convert::open_nodes` meets its contract: the words still to be written, from the node reached on, make the same links.
 -- Assumes nothing.
-use borrow.Author.Rules.{rules}
-use Prim.Native.Nat.{ℕ, ◌+◌, ◌-◌, ◌*◌, ◌≤◌}
-use native.Mathlib.Omega.{arith}
-use mathlib.Core.Path.{◌≡◌, refl, sym, ◌∙◌, ap}
+use Prim.Native.Nat.{◌+◌, ◌-◌, ◌*◌, ◌≤◌}
+use mathlib.Core.Path.{◌≡◌}
 use lib.ListN.{length, drop}
 use lib.Seq.{sets}
 use Rattle.model.specs.Packed.{opened}
-use Rattle.convert.proofs.Opening.{open_start, open_turn, open_end}
 use Rattle.convert.proofs.open_nodes.Given as goal
 
 abbrev pub invariant-loop-i : goal.invariant-loop-i

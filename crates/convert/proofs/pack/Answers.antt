@@ -1,10 +1,8 @@
 -- `convert::pack` keeps its promise.
 -- Assumes nothing.
-use borrow.Author.Rules.{rules}
 use native.Mathlib.Omega.{arith}
-use mathlib.Core.Path.{◌≡◌, sym, ◌∙◌, ap}
+use mathlib.Core.Path.{sym, ◌∙◌}
 use lib.ListN.{length}
-use borrow.Author.Tests.{not-true, not-false}
 use Rattle.tables.proofs.Fits.{packs_of}
 use Rattle.convert.proofs.Fitting.{nodes_fit}
 use Rattle.convert.proofs.Closing.{audit_yes, pack_lengths, pack_tables, packs_all}

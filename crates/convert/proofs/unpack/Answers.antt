@@ -1,10 +1,8 @@
 -- `convert::unpack` keeps its promise.
 -- Assumes nothing.
-use borrow.Author.Rules.{rules}
 use native.Mathlib.Omega.{arith}
-use mathlib.Core.Path.{◌≡◌, sym, ◌∙◌, ap}
+use mathlib.Core.Path.{sym, ◌∙◌}
 use lib.ListN.{length}
-use borrow.Author.Tests.{not-true, not-false}
 use Rattle.tables.proofs.Fits.{packs_of}
 use Rattle.convert.proofs.Opening.{refuses_lengths, refuses_target, refuses_tables, unpacks}
 use Rattle.convert.proofs.unpack.Goals as goal

@@ -1,9 +1,6 @@
 -- `convert::write_node` meets its contract.
 -- Assumes nothing.
-use borrow.Author.Rules.{rules}
 use native.Mathlib.Omega.{arith}
-use native.Mathlib.Numerals.{add-one}
-use mathlib.Core.Path.{◌≡◌, refl}
 use lib.ListN.{length-set}
 use Rattle.convert.proofs.Opening.{node_written}
 use Rattle.convert.proofs.write_node.Goals as goal

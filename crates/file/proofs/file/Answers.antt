@@ -1,7 +1,6 @@
 -- `file::file` meets its promise: a first no is the answer, and otherwise the promise is that of `file_passed`.
 -- Assumes nothing.
 use mathlib.Core.Path.{sym, ◌∙◌}
-use borrow.Author.Rules.{rules}
 use Rattle.file.proofs.Packed.{passes, refused_packed, done_packed}
 use Rattle.file.proofs.file.Goals as goal
 

@@ -2,8 +2,6 @@
 -- Assumes nothing.
 use native.Mathlib.Omega.{arith}
 use mathlib.Core.Path.{sym, ◌∙◌}
-use borrow.Author.Rules.{rules}
-use borrow.Author.Tests.{not-true}
 use Rattle.model.specs.Packed.{unpacked}
 use Rattle.file.proofs.Asked.{passed}
 use Rattle.file.proofs.Promised.{promise_eleven, promise_done}

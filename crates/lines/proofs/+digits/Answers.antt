@@ -3,8 +3,6 @@
 use Rattle.lines.proofs.Laws.{decimal_one, decimal_more, puts_then, puts_as, room_one, room_more}
 use mathlib.Core.Path.{sym, ◌∙◌}
 use native.Mathlib.Omega.{arith}
-use borrow.Author.Rules.{rules}
-use Prim.Native.Nat.{ℕ, ◌<◌}
 use Rattle.lines.proofs.+digits.Goals as goal
 
 pub push-requires : goal.push-requires

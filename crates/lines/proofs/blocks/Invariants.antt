@@ -1,11 +1,8 @@
 -- `lines::blocks` meets its contract. The invariant: the first i blocks are put, each in at most 11 bytes.
 -- Assumes nothing.
 use Rattle.lines.specs.Text.{spaced, Puts}
-use borrow.Author.Rules.{rules}
 use lib.ListN.{take}
 use Prim.Native.Nat.{◌+◌, ◌*◌, ◌-◌, ◌≤◌}
-use Rattle.lines.proofs.Laws.{puts_none, puts_block, puts_all}
-use native.Mathlib.Omega.{arith}
 use Rattle.lines.proofs.blocks.Given as goal
 
 abbrev pub invariant-loop-i : goal.invariant-loop-i

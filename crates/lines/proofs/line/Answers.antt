@@ -3,7 +3,6 @@
 use Rattle.lines.proofs.Laws.{puts_line}
 use mathlib.Core.List.{[], ◌∷◌}
 use native.Mathlib.Omega.{arith}
-use borrow.Author.Rules.{rules}
 use Rattle.lines.proofs.line.Goals as goal
 
 pub returns : goal.returns

@@ -2,7 +2,6 @@
 -- Assumes nothing.
 use Rattle.lines.proofs.Laws.{decimal_few, spaced_one, puts_then, puts_as}
 use native.Mathlib.Omega.{arith}
-use borrow.Author.Rules.{rules}
 use Rattle.lines.proofs.number.Goals as goal
 
 pub digits-requires : goal.digits-requires

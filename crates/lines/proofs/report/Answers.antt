@@ -2,7 +2,6 @@
 -- Assumes nothing.
 use Rattle.lines.proofs.Laws.{decimal_byte, puts_report}
 use native.Mathlib.Omega.{arith}
-use borrow.Author.Rules.{rules}
 use Rattle.lines.proofs.report.Goals as goal
 
 pub digits-first-requires : goal.digits-first-requires

@@ -1,8 +1,6 @@
 -- `rebuild::rebuild` meets its contract: one law for each of its four returns.
 -- Assumes nothing.
-use borrow.Author.Rules.{rules}
 use mathlib.Core.Path.{sym, ◌∙◌}
-use borrow.Author.Tests.{not-true, not-false}
 use Rattle.rebuild.proofs.Packed.{unfit_packed, short_packed, sound_packed, unsound_packed, rebuilt_packed_is}
 use Rattle.rebuild.proofs.rebuild.Goals as goal
 

@@ -1,14 +1,9 @@
 -- `rebuild::rebuild_sound` meets its contract: the heads are collected, the tree is built of them, and the other nodes are freed.
 -- Assumes nothing.
-use borrow.Author.Rules.{rules}
 use native.Mathlib.Omega.{arith}
 use mathlib.Core.Path.{refl, sym, ◌∙◌, ap}
 use lib.ListN.{length, length-set}
-use lib.Seq.{sets, length-take-le}
-use Prim.Native.Nat.{ℕ, ◌+◌}
-use mathlib.Core.List.{List}
-use Rattle.model.specs.Packed.{unpacked, Packs}
-use Rattle.model.proofs.Packing.{front_word}
+use lib.Seq.{length-take-le}
 use Rattle.rebuild.proofs.Whole.{heads_fit, gathered, few, fits, beyond, heads_read, walk_read, asks_packed, whole_packed}
 use Rattle.rebuild.proofs.rebuild_sound.Goals as goal
 

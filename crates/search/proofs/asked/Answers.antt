@@ -1,8 +1,6 @@
 -- `search::asked` meets its contract: at each return the tests that led there say which question refuses.
 -- Assumes nothing.
-use borrow.Author.Rules.{rules}
 use mathlib.Core.Path.{sym, ◌∙◌}
-use borrow.Author.Tests.{not-true, not-false}
 use native.Mathlib.Omega.{arith}
 use Rattle.search.proofs.Asking.{says_tables, says_query, says_marks, says_output, says_none}
 use Rattle.search.proofs.asked.Goals as goal

@@ -1,6 +1,5 @@
 -- `search::search` meets its contract: the first no decides, and what `find` gives keeps the promise.
 -- Assumes nothing.
-use borrow.Author.Rules.{rules}
 use mathlib.Core.Path.{sym, ◌∙◌, ap}
 use Rattle.model.specs.Ledger.{bare}
 use Rattle.search.proofs.Asking.{passed_sized}

@@ -9,7 +9,6 @@ use native.Mathlib.Omega.{arith}
 use lib.Pow.{pow_mono}
 use lib.Bits.{bit_xor, xor_lt}
 use lib.Count.{count_leading_zeros, leading_top}
-use borrow.Author.Rules.{rules}
 use Rattle.model.specs.Signature.{bit_at}
 use Rattle.signature.proofs.Bits.{bits_equal, bit_zero, bit_above, xor_agree, xor_differ}
 use Rattle.signature.proofs.Difference.{IsFirst, first_is, first_unique}
@@ -48,15 +47,15 @@ is_first F a b hF ha hb ne t =
     }
 
 pub overflow_sub-result-2 : goal.overflow_sub-result-2
-overflow_sub-result-2 c =     let t = top c.args.width c.args.a c.args.b c.requires.1 c.requires.2 c.requires.3 c.requires.4 in
+overflow_sub-result-2 c = let t = top c.args.width c.args.a c.args.b c.requires.1 c.requires.2 c.requires.3 c.requires.4 in
     omega (arith, t.count, t.inside)
 
 pub overflow_add-result : goal.overflow_add-result
-overflow_add-result c =     let t = top c.args.width c.args.a c.args.b c.requires.1 c.requires.2 c.requires.3 c.requires.4 in
+overflow_add-result c = let t = top c.args.width c.args.a c.args.b c.requires.1 c.requires.2 c.requires.3 c.requires.4 in
     omega (arith, t.count, t.inside)
 
 pub returns : goal.returns
-returns c =     let F : ℕ = c.args.width in
+returns c = let F : ℕ = c.args.width in
     let a : ℕ = c.args.a in
     let b : ℕ = c.args.b in
     let t : Top F a b = top F a b c.requires.1 c.requires.2 c.requires.3 c.requires.4 in

@@ -2,7 +2,6 @@
 -- Assumes nothing.
 use native.Mathlib.Omega.{arith}
 use Rattle.slips.proofs.Fields.{number_four}
-use borrow.Author.Rules.{rules}
 use Rattle.slips.proofs.four.Goals as goal
 
 pub returns : goal.returns

@@ -3,7 +3,6 @@
 use native.Mathlib.Omega.{arith}
 use mathlib.Core.Bool.{true}
 use Rattle.slips.proofs.Fields.{reads_clear, reads_file, reads_withdraw, reads_rebuild, reads_search, kind_unknown}
-use borrow.Author.Rules.{rules}
 use Rattle.slips.proofs.order_of.Goals as goal
 
 pub returns-in-0 : goal.returns-in-0

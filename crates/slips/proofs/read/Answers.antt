@@ -2,7 +2,6 @@
 -- Assumes nothing.
 use mathlib.Core.Path.{refl}
 use Rattle.slips.proofs.Fields.{wrong_length, right_length}
-use borrow.Author.Rules.{rules}
 use Rattle.slips.proofs.read.Goals as goal
 
 pub returns-then-slip-ne-SLIP : goal.returns-then-slip-ne-SLIP

@@ -3,7 +3,6 @@
 use mathlib.Core.Path.{ap}
 use lib.Dec.{eqb}
 use Rattle.slips.proofs.Fields.{number_three}
-use borrow.Author.Rules.{rules}
 use Rattle.slips.proofs.reserved_zero.Goals as goal
 
 pub returns : goal.returns

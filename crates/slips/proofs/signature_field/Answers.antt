@@ -1,7 +1,6 @@
 -- `slips::signature_field` meets its contract. Eight bytes are two halves of four.
 -- Assumes nothing.
 use Rattle.slips.proofs.Fields.{signature_halves}
-use borrow.Author.Rules.{rules}
 use Rattle.slips.proofs.signature_field.Goals as goal
 
 pub returns : goal.returns

@@ -1,7 +1,6 @@
 -- `split::build` meets its contract: it calls itself on each half of the group, whose nodes follow its own. The measure is the
 -- group's length.
 -- Assumes nothing.
-use Prim.Native.Nat.{ℕ, ◌<◌}
 use native.Mathlib.Omega.{arith}
 use mathlib.Core.Path.{◌≡◌, sym, ◌∙◌, ap}
 use lib.ListN.{length}

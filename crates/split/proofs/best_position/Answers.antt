@@ -1,13 +1,9 @@
 -- `split::best_position` meets its contract: the best of the positions passed, tried against those to come, is the best of all.
 -- Assumes nothing.
-use Prim.Native.Nat.{◌≤◌, ◌-◌, suc}
 use native.Mathlib.Omega.{arith}
-use mathlib.Core.Path.{◌≡◌, refl}
-use Rattle.model.specs.Basics.{up_from}
-use Rattle.model.specs.Build.{smaller, best_of, best_position}
+use mathlib.Core.Path.{refl}
 use Rattle.model.specs.Tables.{signature_of}
 use Rattle.split.proofs.Best.{turn_yes, turn_no, turn_end}
-use borrow.Author.Rules.{rules}
 use Rattle.split.proofs.best_position.Goals as goal
 
 pub loop-position-init : goal.loop-position-init

@@ -1,13 +1,10 @@
 -- `split::best_position` meets its contract: the best of the positions passed, tried against those to come, is the best of all.
 -- Assumes nothing.
 use Prim.Native.Nat.{◌≤◌, ◌-◌, suc}
-use native.Mathlib.Omega.{arith}
-use mathlib.Core.Path.{◌≡◌, refl}
+use mathlib.Core.Path.{◌≡◌}
 use Rattle.model.specs.Basics.{up_from}
 use Rattle.model.specs.Build.{smaller, best_of, best_position}
 use Rattle.model.specs.Tables.{signature_of}
-use Rattle.split.proofs.Best.{turn_yes, turn_no, turn_end}
-use borrow.Author.Rules.{rules}
 use Rattle.split.proofs.best_position.Given as goal
 
 abbrev pub invariant-loop-position : goal.invariant-loop-position

@@ -3,7 +3,6 @@
 use Prim.Native.Nat.{ℕ}
 use mathlib.Core.Path.{◌∙◌, ap}
 use Rattle.model.specs.Signature.{bit_at}
-use borrow.Author.Rules.{rules}
 use Rattle.split.proofs.block_bit.Goals as goal
 
 pub returns : goal.returns

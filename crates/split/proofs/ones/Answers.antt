@@ -1,9 +1,7 @@
 -- `split::ones` meets its contract: the sum of the bits of the blocks passed counts those with bit 1.
 -- Assumes nothing.
-use Prim.Native.Nat.{◌≤◌, ◌-◌}
 use native.Mathlib.Omega.{arith}
-use mathlib.Core.Path.{◌≡◌, refl, sym, ap, ◌∙◌}
-use lib.ListN.{length, take}
+use mathlib.Core.Path.{refl, sym, ap, ◌∙◌}
 use lib.Seq.{take_all}
 use Rattle.model.specs.Signature.{bit_at}
 use Rattle.model.specs.Tables.{signature_of}
@@ -11,7 +9,6 @@ use Rattle.model.proofs.Members.{total}
 use Rattle.split.specs.Split.{Blocks}
 use Rattle.split.proofs.Sums.{total_more}
 use Rattle.split.proofs.Sides.{ones_total}
-use borrow.Author.Rules.{rules}
 use Rattle.split.proofs.ones.Goals as goal
 
 pub loop-i-init : goal.loop-i-init

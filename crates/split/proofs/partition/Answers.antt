@@ -1,12 +1,9 @@
 -- `split::partition` meets its contract: before `low` the bit is 0, from `end` on it is 1, and entries only change places.
 -- Assumes nothing.
-use Prim.Native.Nat.{◌-◌}
 use native.Mathlib.Omega.{arith}
 use mathlib.Core.Path.{sym, ◌∙◌}
 use lib.ListN.{length-set}
-use Rattle.model.specs.Tables.{signature_of}
-use Rattle.split.proofs.Parting.{Parting, parting_start, parting_low, parting_high, parting_block, parting_end}
-use borrow.Author.Rules.{rules}
+use Rattle.split.proofs.Parting.{parting_start, parting_low, parting_high, parting_block, parting_end}
 use Rattle.split.proofs.partition.Goals as goal
 
 pub loop-low-init : goal.loop-low-init

@@ -2,7 +2,6 @@
 -- Assumes nothing.
 use native.Mathlib.Omega.{arith}
 use Rattle.split.proofs.Halves.{none_to, one_to, more_to}
-use borrow.Author.Rules.{rules}
 use Rattle.split.proofs.reference.Goals as goal
 
 pub returns-then-size-eq0 : goal.returns-then-size-eq0

@@ -4,7 +4,6 @@ use native.Mathlib.Omega.{arith}
 use Rattle.model.specs.Build.{smaller}
 use Rattle.model.specs.Tables.{signature_of}
 use Rattle.model.proofs.Sides.{sides_length}
-use borrow.Author.Rules.{rules}
 use Rattle.split.proofs.smaller_side.Goals as goal
 
 pub overflow_sub-left : goal.overflow_sub-left

@@ -1,7 +1,6 @@
 -- `split::split` meets its contract: a list parted at its best position has its sides there.
 -- Assumes nothing.
 use Rattle.split.proofs.Halves.{halve}
-use borrow.Author.Rules.{rules}
 use Rattle.split.proofs.split.Goals as goal
 
 pub returns : goal.returns

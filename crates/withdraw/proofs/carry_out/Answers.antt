@@ -2,8 +2,6 @@
 -- Assumes nothing.
 use native.Mathlib.Omega.{arith}
 use mathlib.Core.Path.{sym, ◌∙◌}
-use borrow.Author.Rules.{rules}
-use borrow.Author.Tests.{not-true, not-false}
 use Rattle.withdraw.proofs.Packed.{fits_row}
 use Rattle.withdraw.proofs.Promised.{gives_up, carries_out}
 use Rattle.withdraw.proofs.carry_out.Goals as goal

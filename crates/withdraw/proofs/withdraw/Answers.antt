@@ -1,6 +1,5 @@
 -- `withdraw::withdraw` meets its promise: the first no decides, and else what `carry_out` ensures is the promise.
 -- Assumes nothing.
-use borrow.Author.Rules.{rules}
 use Rattle.withdraw.proofs.Packed.{refused_packed, done_packed}
 use Rattle.withdraw.proofs.withdraw.Goals as goal
 

@@ -1,7 +1,6 @@
 -- `sign` meets its promise: the refusal decides between 0 and the pass over the text.
 -- Assumes nothing.
 use Rattle.words.proofs.Asked.{sign_refused, sign_done}
-use borrow.Author.Rules.{rules}
 use Rattle.words.proofs.sign.Goals as goal
 
 pub returns-then-refusal-ne0 : goal.returns-then-refusal-ne0

@@ -1,6 +1,5 @@
 -- `audit::answer::sound` meets its contract: each return is a step of the verdict (AnswerLaws).
 -- Assumes nothing.
-use borrow.Author.Rules.{rules}
 use native.Mathlib.Omega.{arith}
 use mathlib.Core.Path.{sym, ◌∙◌}
 use borrow.Author.Tests.{not-true, not-false}

@@ -1,11 +1,7 @@
 -- `audit::chain::follow` meets its contract. The invariant: the rest of the chain gives what the whole chain gives.
 -- Assumes nothing.
-use native.Mathlib.Omega.{arith}
-use mathlib.Core.Path.{◌≡◌, refl, sym, ◌∙◌, ap}
-use borrow.Author.Tests.{not-true, not-false}
-use borrow.Author.Rules.{rules}
+use mathlib.Core.Path.{◌≡◌}
 use Rattle.audit.specs.Audit.{chain_twin}
-use Rattle.audit.proofs.ChainLaws.{pos_ne, le_none, block_yes, chain_end, chain_none, chain_stop, chain_go}
 use Rattle.audit.proofs.chain.follow.Given as goal
 
 abbrev pub invariant-loop-block : goal.invariant-loop-block

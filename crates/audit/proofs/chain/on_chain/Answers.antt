@@ -1,7 +1,6 @@
 -- `audit::chain::on_chain` meets its contract: each return is a part of the test of a block.
 -- Assumes nothing.
 use mathlib.Core.Path.{sym}
-use borrow.Author.Rules.{rules}
 use Rattle.audit.proofs.ChainLaws.{block_far, block_unfiled, block_filed}
 use Rattle.audit.proofs.chain.on_chain.Goals as goal
 

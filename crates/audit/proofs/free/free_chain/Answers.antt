@@ -1,11 +1,7 @@
 -- `audit::free::free_chain` meets its contract. The invariant: the rest of the chain gives what the whole chain gives.
 -- Assumes nothing.
-use borrow.Author.Rules.{rules}
 use native.Mathlib.Omega.{arith}
-use mathlib.Core.Path.{◌≡◌, sym, ◌∙◌, ap}
-use borrow.Author.Tests.{not-true, not-false}
-use Rattle.model.specs.Tables.{free_of}
-use Rattle.model.specs.Packed.{unpacked}
+use mathlib.Core.Path.{sym, ◌∙◌, ap}
 use Rattle.tables.proofs.Either.{rows_inside, form_word}
 use Rattle.audit.specs.Audit.{free_twin}
 use Rattle.audit.proofs.FreeLaws.{free_in, free_from_one, free_end, free_stop, free_go}

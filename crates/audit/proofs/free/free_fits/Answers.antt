@@ -1,6 +1,5 @@
 -- `audit::free::free_fits` meets its contract: each return is a part of the test of a free node.
 -- Assumes nothing.
-use borrow.Author.Rules.{rules}
 use native.Mathlib.Omega.{arith}
 use mathlib.Core.Path.{sym}
 use Rattle.audit.proofs.FreeLaws.{free_zero, free_far, free_tests, free_blank}

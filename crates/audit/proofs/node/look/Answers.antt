@@ -1,6 +1,5 @@
 -- `audit::node::look` meets its contract: each return is a part of the test of a node.
 -- Assumes nothing.
-use borrow.Author.Rules.{rules}
 use native.Mathlib.Omega.{arith}
 use mathlib.Core.Path.{sym, ◌∙◌}
 use Rattle.tables.proofs.Either.{rows_inside, form_word}

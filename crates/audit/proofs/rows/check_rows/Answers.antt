@@ -1,11 +1,8 @@
 -- `audit::rows::check_rows` meets its contract. The invariant: the rows so far are fit, and the count is of them.
 -- Assumes nothing.
-use Prim.Native.Nat.{◌-◌, ◌≤◌}
 use native.Mathlib.Omega.{arith}
 use mathlib.Core.Path.{◌≡◌, refl, sym, ◌∙◌, ap}
-use mathlib.Core.Bool.{true}
 use lib.ListN.{length}
-use borrow.Author.Tests.{not-true, not-false}
 use borrow.Author.Rules.{rules}
 use Rattle.model.specs.Sound.{filed_up_to}
 use Rattle.audit.specs.Audit.{rows_ok}

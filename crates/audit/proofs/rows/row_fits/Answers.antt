@@ -1,8 +1,6 @@
 -- `audit::rows::row_fits` meets its contract: each return is a part of the test of a row.
 -- Assumes nothing.
 use mathlib.Core.Path.{sym, ◌∙◌}
-use borrow.Author.Tests.{not-true, not-false}
-use borrow.Author.Rules.{rules}
 use Rattle.audit.proofs.RowLaws.{row_wide, row_blank, row_linked, row_filed}
 use Rattle.audit.proofs.rows.row_fits.Goals as goal
 

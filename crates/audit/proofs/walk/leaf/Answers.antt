@@ -1,7 +1,6 @@
 -- `audit::walk::leaf` meets its contract: no block, a signature off the path, or the chain of one on it.
 -- Assumes nothing.
 use mathlib.Core.Path.{sym, ◌∙◌}
-use borrow.Author.Rules.{rules}
 use Rattle.audit.proofs.WalkLaws.{leaf_zero, leaf_lost, leaf_found}
 use Rattle.audit.proofs.walk.leaf.Goals as goal
 

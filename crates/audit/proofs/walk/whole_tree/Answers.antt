@@ -1,9 +1,7 @@
 -- `audit::walk::whole_tree` meets its contract: no tree, or the walk from the root.
 -- Assumes nothing.
-use borrow.Author.Rules.{rules}
 use native.Mathlib.Omega.{arith}
-use mathlib.Core.Path.{sym, ◌∙◌}
-use Rattle.audit.proofs.Either.{front, tree_none, tree_some}
+use Rattle.audit.proofs.Either.{tree_none, tree_some}
 use Rattle.audit.proofs.walk.whole_tree.Goals as goal
 
 pub bounds-links-2 : goal.bounds-links-2

@@ -1,13 +1,9 @@
 -- `clear::zeros::zero_links` meets its contract. The invariant: the first i words are 0 and the rest as at entry.
 -- Assumes nothing.
 use Prim.Native.Nat.{◌≤◌, ◌-◌}
-use Rattle.clear.proofs.Filling.{filled}
-use borrow.Author.Fill.{fill_none, fill_more}
-use borrow.Author.Rules.{rules}
-use lib.ListN.{length, drop, replicate, length-set}
+use lib.ListN.{length, drop, replicate}
 use mathlib.Core.List.{◌++◌}
-use mathlib.Core.Path.{◌≡◌, refl, ◌∙◌}
-use native.Mathlib.Omega.{arith}
+use mathlib.Core.Path.{◌≡◌}
 use Rattle.clear.proofs.zeros.zero_links.Given as goal
 
 abbrev pub invariant-loop-i : goal.invariant-loop-i

@@ -1,11 +1,9 @@
 -- `clear::zeros::zero_signatures` meets its contract. The invariant: the first b signatures are 0 and the rest as at entry.
 -- Assumes nothing.
-use Prim.Native.Nat.{◌≤◌, ◌-◌}
 use Rattle.clear.proofs.Filling.{filled}
 use borrow.Author.Fill.{fill_none, fill_more}
 use borrow.Author.Rules.{rules}
-use lib.ListN.{length, drop, replicate, length-set}
-use mathlib.Core.List.{◌++◌}
+use lib.ListN.{length, length-set}
 use mathlib.Core.Path.{◌≡◌, refl, ◌∙◌}
 use native.Mathlib.Omega.{arith}
 use Rattle.clear.proofs.zeros.zero_signatures.Goals as goal

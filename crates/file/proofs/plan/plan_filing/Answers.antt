@@ -2,11 +2,8 @@
 -- Assumes nothing.
 use Prim.Native.Nat.{ℕ, ◌^◌, ◌≤◌, ◌<◌}
 use native.Mathlib.Omega.{arith}
-use mathlib.Core.Path.{◌≡◌, sym, ◌∙◌, subst}
-use borrow.Author.Rules.{rules}
-use borrow.Author.Tests.{not-true, not-false}
+use mathlib.Core.Path.{sym, ◌∙◌, subst}
 use lib.ListN.{length}
-use Rattle.model.specs.Tables.{word, signature_of}
 use Rattle.model.specs.Packed.{unpacked}
 use Rattle.model.proofs.Asking.{in_range}
 use Rattle.model.proofs.Packing.{front_word}
@@ -70,8 +67,11 @@ returns-then-other-signature c =
     let e = (c.walk-walked.ensures.held.here c.if-link-eq0.false) in
     let w = c.wide-2.ensures in
     let one = r.0 in
-    record { plans = subst (λ (h : ℕ). Plans a.signatures.now U a.block a.signature (Join h)) (sym e)
-          (plan_join _ _ _ _ c.requires.le_block.0 c.requires.le_block.1 c.requires.le_block.2 (λ z. c.if-links-eq0.false (sym (front_word _ _ _ c.requires.fits_packed.packs 2 (omega arith)) ∙ z)) _ _ (ends_row _ _ _ c.requires.fits_packed.packs _ _ _ c.walk-walked.ensures.ends) c.if-link-eq0.false (omega arith) _ (rw (w, e)) c.if-other-signature.true); within = ((omega (arith, c.wide.ensures, front_word _ _ _ c.requires.fits_packed.packs 4 (omega arith), c.if-blocks-wide.false), r.0, r.1)) }
+    record {
+      plans = subst (λ (h : ℕ). Plans a.signatures.now U a.block a.signature (Join h)) (sym e)
+          (plan_join _ _ _ _ c.requires.le_block.0 c.requires.le_block.1 c.requires.le_block.2 (λ z. c.if-links-eq0.false (sym (front_word _ _ _ c.requires.fits_packed.packs 2 (omega arith)) ∙ z)) _ _ (ends_row _ _ _ c.requires.fits_packed.packs _ _ _ c.walk-walked.ensures.ends) c.if-link-eq0.false (omega arith) _ (rw (w, e)) c.if-other-signature.true);
+      within = ((omega (arith, c.wide.ensures, front_word _ _ _ c.requires.fits_packed.packs 4 (omega arith), c.if-blocks-wide.false), r.0, r.1));
+    }
 
 pub plan_split-requires : goal.plan_split-requires
 plan_split-requires c =

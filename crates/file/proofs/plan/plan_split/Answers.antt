@@ -2,8 +2,7 @@
 -- Assumes nothing.
 use native.Mathlib.Omega.{arith}
 use mathlib.Core.Path.{sym, ◌∙◌}
-use borrow.Author.Rules.{rules}
-use borrow.Author.Tests.{not-true, not-false, ltb-true}
+use borrow.Author.Tests.{ltb-true}
 use Rattle.file.proofs.Asked.{not_below}
 use Rattle.model.proofs.Asking.{in_range, not_in_range}
 use Rattle.file.proofs.Planned.{a_split, difference_in}

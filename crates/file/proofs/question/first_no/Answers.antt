@@ -3,8 +3,6 @@
 use native.Mathlib.Omega.{arith}
 use mathlib.Core.Path.{sym, ◌∙◌}
 use lib.ListN.{length}
-use borrow.Author.Rules.{rules}
-use borrow.Author.Tests.{not-true, not-false}
 use Rattle.model.proofs.Asking.{in_range}
 use Rattle.file.proofs.Packed.{says_4, says_5, says_6, says_7, says_none}
 use Rattle.file.proofs.question.first_no.Goals as goal

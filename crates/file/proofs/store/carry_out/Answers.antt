@@ -2,7 +2,6 @@
 -- Assumes nothing.
 use native.Mathlib.Omega.{arith}
 use mathlib.Core.Path.{refl, subst}
-use borrow.Author.Rules.{rules}
 use Rattle.model.specs.Packed.{unpacked}
 use Rattle.model.proofs.Packing.{front_word}
 use Rattle.file.specs.Plan.{PlanFits}

@@ -2,7 +2,6 @@
 -- Assumes nothing.
 use native.Mathlib.Omega.{arith}
 use lib.ListN.{length-set}
-use borrow.Author.Rules.{rules}
 use Rattle.file.proofs.store.store_first.Goals as goal
 
 pub bounds-links-2 : goal.bounds-links-2

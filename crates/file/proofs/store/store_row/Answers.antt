@@ -3,7 +3,6 @@
 use native.Mathlib.Omega.{arith}
 use mathlib.Core.Path.{refl}
 use lib.ListN.{length-set}
-use borrow.Author.Rules.{rules}
 use Rattle.file.proofs.store.store_row.Goals as goal
 
 pub bounds-links-4-2 : goal.bounds-links-4-2

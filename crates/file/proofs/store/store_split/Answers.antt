@@ -1,9 +1,7 @@
 -- `file::store::store_split` meets its contract: the row's stores, then the node's and the reference's, in the definition's order.
 -- Assumes nothing.
 use native.Mathlib.Omega.{arith}
-use mathlib.Core.Path.{◌∙◌, sym}
-use borrow.Author.Rules.{rules}
-use Rattle.model.specs.Packed.{Packs}
+use mathlib.Core.Path.{◌∙◌}
 use Rattle.tables.proofs.Addressed.{asks_word}
 use Rattle.file.proofs.Packed.{split_stores_packed}
 use Rattle.file.proofs.store.store_split.Goals as goal

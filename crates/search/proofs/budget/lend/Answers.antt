@@ -1,6 +1,5 @@
 -- `search::budget::lend` meets its contract: each count of the product is the number of blocks, and a node is taken off.
 -- Assumes nothing.
-use borrow.Author.Rules.{rules}
 use native.Mathlib.Omega.{arith}
 use Rattle.search.proofs.Steps.{lent_is}
 use Rattle.search.proofs.budget.lend.Goals as goal

@@ -1,6 +1,5 @@
 -- `search::budget::take_block` meets its contract.
 -- Assumes nothing.
-use borrow.Author.Rules.{rules}
 use Rattle.search.proofs.Steps.{less_block}
 use Rattle.search.proofs.budget.take_block.Goals as goal
 

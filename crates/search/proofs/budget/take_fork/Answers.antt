@@ -1,6 +1,5 @@
 -- `search::budget::take_fork` meets its contract.
 -- Assumes nothing.
-use borrow.Author.Rules.{rules}
 use Rattle.search.proofs.Steps.{less_fork}
 use Rattle.search.proofs.budget.take_fork.Goals as goal
 

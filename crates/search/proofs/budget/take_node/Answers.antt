@@ -1,6 +1,5 @@
 -- `search::budget::take_node` meets its contract.
 -- Assumes nothing.
-use borrow.Author.Rules.{rules}
 use Rattle.search.proofs.Steps.{less_node}
 use Rattle.search.proofs.budget.take_node.Goals as goal
 

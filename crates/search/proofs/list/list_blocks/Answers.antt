@@ -1,10 +1,8 @@
 -- `search::list::list_blocks` meets its contract. The invariant: the output lists the blocks passed.
 -- Assumes nothing.
-use borrow.Author.Rules.{rules}
 use mathlib.Core.Path.{◌≡◌, sym, ◌∙◌}
-use Prim.Native.Nat.{◌-◌}
 use native.Mathlib.Omega.{arith}
-use Rattle.search.proofs.Listings.{part_full, Passed, passed_none, pass_yes, pass_no}
+use Rattle.search.proofs.Listings.{part_full, passed_none, pass_yes, pass_no}
 use Rattle.search.proofs.list.list_blocks.Goals as goal
 
 pub loop-block-init : goal.loop-block-init

@@ -3,9 +3,7 @@
 -- Assumes nothing.
 use borrow.Author.Rules.{rules}
 use mathlib.Core.Path.{◌∙◌}
-use Prim.Native.Nat.{◌-◌, ◌≤◌}
 use native.Mathlib.Omega.{arith}
-use Rattle.search.specs.Marks.{ListedPart}
 use Rattle.search.proofs.Listings.{part_none, part_then, list_whole}
 use Rattle.search.proofs.list.list_marked.Goals as goal
 

@@ -1,12 +1,8 @@
 -- `search::list::list_marked` meets its contract. The invariant: the output lists the blocks of the runs passed; where all are listed
 -- the last call has nothing left to do.
 -- Assumes nothing.
-use borrow.Author.Rules.{rules}
-use mathlib.Core.Path.{◌∙◌}
 use Prim.Native.Nat.{◌-◌, ◌≤◌}
-use native.Mathlib.Omega.{arith}
 use Rattle.search.specs.Marks.{ListedPart}
-use Rattle.search.proofs.Listings.{part_none, part_then, list_whole}
 use Rattle.search.proofs.list.list_marked.Given as goal
 
 abbrev pub invariant-loop-from : goal.invariant-loop-from

@@ -1,11 +1,10 @@
 -- `search::list::list_whole_run` meets its contract. The invariant: the output lists the blocks passed. Fewer than 64 are passed before
 -- each block, so fewer than `found` are listed.
 -- Assumes nothing.
-use borrow.Author.Rules.{rules}
 use mathlib.Core.Path.{◌≡◌, sym, ◌∙◌}
-use Prim.Native.Nat.{◌+◌, ◌-◌}
+use Prim.Native.Nat.{◌+◌}
 use native.Mathlib.Omega.{arith}
-use Rattle.search.proofs.Listings.{Passed, passed_none, pass_yes, pass_no}
+use Rattle.search.proofs.Listings.{passed_none, pass_yes, pass_no}
 use Rattle.search.proofs.list.list_whole_run.Goals as goal
 
 pub loop-block-init : goal.loop-block-init

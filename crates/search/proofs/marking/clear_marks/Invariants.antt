@@ -1,12 +1,9 @@
 -- `search::marking::clear_marks` meets its contract. The invariant: the first i bytes are 0 and the rest as at entry.
 -- Assumes nothing.
-use borrow.Author.Rules.{rules}
-use mathlib.Core.Path.{◌≡◌, refl}
+use mathlib.Core.Path.{◌≡◌}
 use mathlib.Core.List.{◌++◌}
 use Prim.Native.Nat.{◌≤◌, ◌-◌}
-use lib.ListN.{length, drop, replicate, length-set}
-use borrow.Author.Fill.{fill_none, fill_more}
-use native.Mathlib.Omega.{arith}
+use lib.ListN.{length, drop, replicate}
 use Rattle.search.proofs.marking.clear_marks.Given as goal
 
 abbrev pub invariant-loop-i : goal.invariant-loop-i

@@ -1,12 +1,8 @@
 -- `search::marking::none_marked` meets its contract. The invariant: where the OR so far is 0, so are the marks passed.
 -- Assumes nothing.
-use borrow.Author.Rules.{rules}
-use mathlib.Core.Path.{◌≡◌, ap}
-use Prim.Native.Nat.{ℕ, ◌+◌, ◌-◌, ◌≤◌, ◌<◌}
+use mathlib.Core.Path.{◌≡◌}
+use Prim.Native.Nat.{ℕ, ◌-◌, ◌≤◌, ◌<◌}
 use lib.ListN.{get_or, take, drop}
-use native.Mathlib.Omega.{arith}
-use borrow.Author.Tests.{eqb-true}
-use Rattle.search.proofs.Listings.{none_more, run_none}
 use Rattle.search.proofs.marking.none_marked.Given as goal
 
 abbrev pub invariant-loop-i : goal.invariant-loop-i

@@ -1,6 +1,5 @@
 -- `search::walk::goes_right` meets its contract: the shift is by less than 64, and the mask by 1 is the remainder by 2.
 -- Assumes nothing.
-use borrow.Author.Rules.{rules}
 use mathlib.Core.Path.{◌∙◌, ap}
 use Prim.Native.Nat.{ℕ, ◌+◌, ◌-◌, ◌/◌, ◌%◌, ◌^◌}
 use lib.Dec.{eqb}

@@ -1,6 +1,5 @@
 -- `search::walk::index_of` meets its contract.
 -- Assumes nothing.
-use borrow.Author.Rules.{rules}
 use borrow.Author.Tests.{eq-eqb, ne_eqb}
 use Rattle.search.proofs.walk.index_of.Goals as goal
 

@@ -1,6 +1,5 @@
 -- `search::walk::is_leaf` meets its contract.
 -- Assumes nothing.
-use borrow.Author.Rules.{rules}
 use Rattle.search.proofs.walk.is_leaf.Goals as goal
 
 pub returns : goal.returns

@@ -1,8 +1,6 @@
 -- `search::walk::leaf` meets its contract: at each return the tests that led there say which case of `leaf_twin` holds.
 -- Assumes nothing.
-use borrow.Author.Rules.{rules}
 use mathlib.Core.Path.{sym, ◌∙◌}
-use borrow.Author.Tests.{not-true, not-false}
 use native.Mathlib.Omega.{arith}
 use Rattle.search.proofs.Steps.{leaf_passed, leaf_chain}
 use Rattle.search.proofs.Returns.{covers_read}

@@ -1,12 +1,8 @@
 -- `search::walk::mark_chain` meets its contract. The invariant: the rest of the chain gives what the whole chain gives.
 -- Assumes nothing.
-use borrow.Author.Rules.{rules}
-use mathlib.Core.Path.{◌≡◌, refl, sym, ◌∙◌, ap}
-use lib.ListN.{length}
-use borrow.Author.Tests.{not-true, not-false}
+use mathlib.Core.Path.{refl, sym, ◌∙◌, ap}
 use native.Mathlib.Omega.{arith}
-use Rattle.search.specs.Budget.{Budget, budget_of}
-use Rattle.search.specs.Search.{chain_twin}
+use Rattle.search.specs.Budget.{Budget}
 use Rattle.search.proofs.Marks.{may_matches}
 use Rattle.search.proofs.Steps.{chain_end, chain_spent, chain_stop}
 use Rattle.search.proofs.Returns.{marked_long, chain_goes}

@@ -1,15 +1,9 @@
 -- `search::walk::mark_chain` meets its contract. The invariant: the rest of the chain gives what the whole chain gives.
 -- Assumes nothing.
-use borrow.Author.Rules.{rules}
-use mathlib.Core.Path.{◌≡◌, refl, sym, ◌∙◌, ap}
+use mathlib.Core.Path.{◌≡◌}
 use lib.ListN.{length}
-use borrow.Author.Tests.{not-true, not-false}
-use native.Mathlib.Omega.{arith}
-use Rattle.search.specs.Budget.{Budget, budget_of}
+use Rattle.search.specs.Budget.{budget_of}
 use Rattle.search.specs.Search.{chain_twin}
-use Rattle.search.proofs.Marks.{may_matches}
-use Rattle.search.proofs.Steps.{chain_end, chain_spent, chain_stop}
-use Rattle.search.proofs.Returns.{marked_long, chain_goes}
 use Rattle.search.proofs.walk.mark_chain.Given as goal
 
 abbrev pub invariant-loop-block : goal.invariant-loop-block

@@ -1,7 +1,6 @@
 -- `search::walk::mark_leaf` meets its contract: the head may be marked where it is filed and unmarked, since it covers the query, and
 -- then the chain goes on after it.
 -- Assumes nothing.
-use borrow.Author.Rules.{rules}
 use mathlib.Core.Path.{sym, ◌∙◌}
 use native.Mathlib.Omega.{arith}
 use Rattle.search.proofs.Steps.{chain_spent}

@@ -1,6 +1,5 @@
 -- `search::walk::may_mark` meets its contract: at each return the tests that led there say which case of `may_mark` holds.
 -- Assumes nothing.
-use borrow.Author.Rules.{rules}
 use mathlib.Core.Path.{sym, ◌∙◌}
 use borrow.Author.Tests.{eq-eqb, ne_eqb, lt-ltb, le-ltb}
 use native.Mathlib.Omega.{arith}

@@ -1,7 +1,6 @@
 -- `search::walk::walk_tree` meets its contract: a root is a leaf, or it is walked; the marks that are handed back are those that were
 -- taken.
 -- Assumes nothing.
-use borrow.Author.Rules.{rules}
 use mathlib.Core.Path.{sym, ◌∙◌}
 use Rattle.search.proofs.Steps.{walk_leaf}
 use Rattle.search.proofs.Rows.{leaf_row}

@@ -1,6 +1,5 @@
 -- `search::walk::word_at` meets its contract: a test to each case of `word_at`.
 -- Assumes nothing.
-use borrow.Author.Rules.{rules}
 use native.Mathlib.Omega.{arith}
 use lib.ListN.{length}
 use Rattle.search.specs.Search.{slice_at}

@@ -1,7 +1,6 @@
 -- `tables::forms::parts_of` meets its contract.
 -- Assumes nothing.
 use native.Mathlib.Omega.{arith}
-use borrow.Author.Rules.{rules}
 use Rattle.tables.proofs.Either.{old_room, old_parts, packed_room, packed_parts}
 use Rattle.tables.proofs.forms.parts_of.Goals as goal
 

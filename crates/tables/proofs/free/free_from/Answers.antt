@@ -2,7 +2,6 @@
 -- Assumes nothing.
 use native.Mathlib.Omega.{arith}
 use mathlib.Core.Path.{sym}
-use borrow.Author.Rules.{rules}
 use Rattle.tables.proofs.Spelled.{free_some, free_none}
 use Rattle.tables.proofs.free.free_from.Goals as goal
 

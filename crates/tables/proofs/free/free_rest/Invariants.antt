@@ -1,17 +1,13 @@
 -- `tables::free::free_rest` meets its contract: the words still to be stored, from the node reached on, make the same tables.
 -- Assumes nothing.
-use Prim.Native.Nat.{ℕ, ◌+◌, ◌-◌, ◌≤◌}
-use native.Mathlib.Omega.{arith}
-use mathlib.Core.Path.{◌≡◌, refl, sym, ◌∙◌}
+use Prim.Native.Nat.{ℕ, ◌-◌, ◌≤◌}
+use mathlib.Core.Path.{◌≡◌}
 use mathlib.Core.List.{List}
 use lib.ListN.{length}
 use lib.Seq.{sets}
-use borrow.Author.Rules.{rules}
 use Rattle.model.specs.Tables.{position_at}
 use Rattle.model.specs.Clear.{free_nodes}
 use Rattle.model.specs.Packed.{unpacked, Packs}
-use Rattle.tables.proofs.Spelled.{free_none}
-use Rattle.tables.proofs.Freeing.{freed, free_end}
 use Rattle.tables.proofs.free.free_rest.Given as goal
 
 abbrev pub invariant-loop-i : goal.invariant-loop-i

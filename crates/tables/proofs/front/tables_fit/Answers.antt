@@ -1,7 +1,5 @@
 -- `tables::front::tables_fit` meets its contract: a no of the lengths is the test's no, and words 0 and 1 are the rest of it.
 -- Assumes nothing.
-use borrow.Author.Rules.{rules}
-use borrow.Author.Tests.{not-true, not-false}
 use mathlib.Core.Path.{sym, ◌∙◌}
 use lib.ListN.{length}
 use native.Mathlib.Omega.{arith}

@@ -1,7 +1,5 @@
 -- `tables::front::unpacked_lengths` meets its contract: at each return the test that led there says which part holds.
 -- Assumes nothing.
-use borrow.Author.Rules.{rules}
-use borrow.Author.Tests.{not-true, not-false}
 use mathlib.Core.Path.{sym, ◌∙◌}
 use native.Mathlib.Omega.{arith}
 use Rattle.model.specs.Limits.{most_blocks}

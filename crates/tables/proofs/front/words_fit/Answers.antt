@@ -1,7 +1,5 @@
 -- `tables::front::words_fit` meets its contract: a no of the width is the test's no, and the last comparison is the rest of it.
 -- Assumes nothing.
-use borrow.Author.Rules.{rules}
-use borrow.Author.Tests.{not-true, not-false}
 use mathlib.Core.Path.{sym, ◌∙◌}
 use native.Mathlib.Omega.{arith}
 use Rattle.tables.proofs.front.words_fit.Goals as goal

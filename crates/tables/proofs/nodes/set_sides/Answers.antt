@@ -3,7 +3,6 @@
 use Prim.Native.Nat.{ℕ, ◌-◌}
 use mathlib.Core.Path.{sym, ◌∙◌, ap}
 use lib.ListN.{set}
-use borrow.Author.Rules.{rules}
 use Rattle.tables.proofs.Stays.{sides_left, sides_right}
 use Rattle.tables.proofs.nodes.set_sides.Goals as goal
 

@@ -1,8 +1,7 @@
 -- `tables::nodes::with_part` meets its contract.
 -- Assumes nothing.
 use native.Mathlib.Omega.{arith}
-use mathlib.Core.Path.{◌∙◌, sym}
-use borrow.Author.Rules.{rules}
+use mathlib.Core.Path.{◌∙◌}
 use Rattle.model.proofs.Packing.{with_position, with_left, with_right}
 use Rattle.tables.proofs.nodes.with_part.Goals as goal
 

@@ -2,9 +2,7 @@
 -- Assumes nothing.
 use Prim.Native.Nat.{ℕ, ◌-◌, ◌/◌}
 use mathlib.Core.Path.{refl, ◌∙◌, sym, ap}
-use native.Mathlib.Omega.{arith}
 use lib.ListN.{length, set, length-set}
-use borrow.Author.Rules.{rules}
 use Rattle.model.specs.Packed.{unpacked}
 use Rattle.model.proofs.Packing.{row_store}
 use Rattle.tables.proofs.Addressed.{node_inside, store_beyond}

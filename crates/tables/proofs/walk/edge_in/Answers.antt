@@ -1,7 +1,6 @@
 -- `tables::walk::edge_in` meets its contract: each early return has a no to a part of what makes a position fit.
 -- Assumes nothing.
 use native.Mathlib.Omega.{arith}
-use borrow.Author.Rules.{rules}
 use Rattle.tables.proofs.Edges.{no_side, a_side}
 use Rattle.tables.proofs.walk.edge_in.Goals as goal
 

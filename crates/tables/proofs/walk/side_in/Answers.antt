@@ -2,7 +2,6 @@
 -- Assumes nothing.
 use native.Mathlib.Omega.{arith}
 use mathlib.Core.Path.{◌∙◌, sym}
-use borrow.Author.Rules.{rules}
 use Rattle.model.proofs.Packing.{part_left, part_right}
 use Rattle.tables.proofs.walk.side_in.Goals as goal
 

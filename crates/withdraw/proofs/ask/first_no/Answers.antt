@@ -3,8 +3,6 @@
 use native.Mathlib.Omega.{arith}
 use mathlib.Core.Path.{sym, ◌∙◌}
 use lib.ListN.{length}
-use borrow.Author.Rules.{rules}
-use borrow.Author.Tests.{not-true, not-false}
 use Rattle.model.proofs.Asking.{in_range}
 use Rattle.withdraw.proofs.Packed.{says_4, says_5, says_8, says_none}
 use Rattle.withdraw.proofs.ask.first_no.Goals as goal

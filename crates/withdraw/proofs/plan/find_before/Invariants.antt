@@ -2,17 +2,11 @@
 -- where the definition's does; so it neither runs out nor meets a word that is no block.
 -- Assumes nothing.
 use Prim.Native.Nat.{ℕ, ◌≤◌}
-use mathlib.Core.Path.{sym, ◌∙◌}
 use mathlib.Core.List.{List, Memᴰ}
-use borrow.Author.Tests.{not-true, not-false}
 use Rattle.model.specs.Packed.{unpacked}
-use Rattle.model.proofs.Packing.{row_word}
 use Rattle.model.specs.Sound.{Chain}
 use Rattle.model.specs.Withdraw.{block_before}
-use Rattle.withdraw.proofs.Chains.{Sought, seek, some_left, next_is_block, found_before, pass}
-use Rattle.model.proofs.Asking.{in_range, not_in_range}
-use borrow.Author.Rules.{rules}
-use native.Mathlib.Omega.{arith}
+use Rattle.withdraw.proofs.Chains.{Sought}
 use Rattle.withdraw.proofs.plan.find_before.Given as goal
 
 abbrev pub invariant-loop-left : goal.invariant-loop-left

@@ -3,11 +3,8 @@
 -- Assumes nothing.
 use Prim.Native.Nat.{ℕ, ◌≤◌}
 use native.Mathlib.Omega.{arith}
-use mathlib.Core.Path.{◌≡◌, sym, ◌∙◌, subst}
-use borrow.Author.Rules.{rules}
+use mathlib.Core.Path.{sym, ◌∙◌, subst}
 use Rattle.model.proofs.Packing.{front_word}
-use Rattle.model.specs.Packed.{unpacked}
-use Rattle.withdraw.specs.Plan.{PlansChain}
 use Rattle.withdraw.proofs.Packed.{next_small, free_small, next_row, ends_row}
 use Rattle.withdraw.proofs.Plans.{some_filed, walk_found, plans_head, plans_chain}
 use Rattle.withdraw.proofs.plan.plan_block.Goals as goal

@@ -1,11 +1,9 @@
 -- `withdraw::plan::plan_chain` meets its contract: on a chain that has the block, its head is one, and the block before is found.
 -- Assumes nothing.
 use mathlib.Core.Path.{sym, ◌∙◌}
-use borrow.Author.Tests.{not-true, not-false}
 use Rattle.model.proofs.Packing.{row_word}
 use Rattle.withdraw.proofs.Plans.{unlinks}
 use Rattle.model.proofs.Asking.{in_range, not_in_range}
-use borrow.Author.Rules.{rules}
 use native.Mathlib.Omega.{arith}
 use Rattle.withdraw.proofs.plan.plan_chain.Goals as goal
 

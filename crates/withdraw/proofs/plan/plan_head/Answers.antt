@@ -2,7 +2,6 @@
 -- Assumes nothing.
 use native.Mathlib.Omega.{arith}
 use mathlib.Core.Path.{sym, ◌∙◌}
-use borrow.Author.Rules.{rules}
 use Rattle.withdraw.proofs.Packed.{next_row}
 use Rattle.withdraw.proofs.Plans.{head_goes_on, head_last, head_raises}
 use Rattle.withdraw.proofs.plan.plan_head.Goals as goal

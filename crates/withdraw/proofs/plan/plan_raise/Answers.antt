@@ -1,9 +1,8 @@
 -- `withdraw::plan::plan_raise` meets its contract: where the parent is a node that tests a position, no test refuses it.
 -- Assumes nothing.
-use Prim.Native.Nat.{ℕ, ◌+◌, ◌-◌, ◌≤◌, ◌<◌, ◌^◌}
+use Prim.Native.Nat.{◌+◌, ◌-◌}
 use native.Mathlib.Omega.{arith}
-use mathlib.Core.Path.{◌≡◌, sym, ◌∙◌, ap}
-use borrow.Author.Rules.{rules}
+use mathlib.Core.Path.{◌∙◌}
 use Rattle.model.proofs.Packing.{part_below}
 use Rattle.tables.proofs.Edges.{edge_of, side_at_is}
 use Rattle.withdraw.proofs.Plans.{no_raise, raises, node_at}

@@ -1,7 +1,6 @@
 -- `withdraw::store::clear_row` meets its contract: its stores, in their order, are the definition's.
 -- Assumes nothing.
 use lib.ListN.{length-set}
-use borrow.Author.Rules.{rules}
 use native.Mathlib.Omega.{arith}
 use Rattle.withdraw.proofs.store.clear_row.Goals as goal
 

@@ -2,7 +2,6 @@
 -- Assumes nothing.
 use native.Mathlib.Omega.{arith}
 use mathlib.Core.Path.{refl, subst}
-use borrow.Author.Rules.{rules}
 use Rattle.model.specs.Packed.{unpacked}
 use Rattle.withdraw.specs.Plan.{PlanFits}
 use Rattle.withdraw.specs.declared.plan.Plan.{Plan}

@@ -2,7 +2,6 @@
 -- Assumes nothing.
 use native.Mathlib.Omega.{arith}
 use mathlib.Core.Path.{◌∙◌}
-use borrow.Author.Rules.{rules}
 use Rattle.tables.proofs.Addressed.{asks_word}
 use Rattle.withdraw.proofs.Packed.{relink_stores}
 use Rattle.withdraw.proofs.store.relink.Goals as goal

@@ -10,7 +10,6 @@ use lib.Pow.{shl_exact}
 use Rattle.signature.proofs.Bits.{bit_set, bit_clear}
 use Rattle.words.specs.Pass.{Sets}
 use Rattle.words.proofs.Setting.{sets_full, sets_known, sets_fresh}
-use borrow.Author.Rules.{rules}
 use Rattle.words.proofs.signer.add_position.Goals as goal
 
 one_shl : (l : ℕ) → l < 64 → (1 * 2 ^ l) % 2 ^ 64 ≡ 2 ^ l

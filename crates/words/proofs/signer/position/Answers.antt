@@ -6,7 +6,6 @@ use native.Mathlib.Nat.{mod-lt}
 use native.Mathlib.Omega.{arith}
 use Rattle.model.specs.Words.{triplet_position}
 use Rattle.words.proofs.Triplets.{position_inside}
-use borrow.Author.Rules.{rules}
 use Rattle.words.proofs.signer.position.Goals as goal
 
 over : (n F : ℕ) → 1 ≤ F → F < 2 ^ 32 → 1 + n % F < 2 ^ 32

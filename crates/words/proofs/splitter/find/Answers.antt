@@ -2,7 +2,6 @@
 -- Assumes nothing.
 use native.Mathlib.Omega.{arith}
 use Rattle.words.proofs.Asked.{place_refused, place_done}
-use borrow.Author.Rules.{rules}
 use Rattle.words.proofs.splitter.find.Goals as goal
 
 pub returns-then-end-gt-LONGEST_TEXT : goal.returns-then-end-gt-LONGEST_TEXT

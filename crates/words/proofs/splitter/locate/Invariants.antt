@@ -1,15 +1,10 @@
 -- `locate` meets its contract: at each byte the word that is looked for is found in what is left, and each branch keeps that.
 -- Assumes nothing.
-use Prim.Native.Nat.{◌≤◌, ◌<◌, ◌-◌}
-use mathlib.Core.Path.{◌≡◌, ◌∙◌, sym, ap}
-use native.Mathlib.Nat.{le_antisymm}
-use mathlib.Core.Logic.{⊎_elim}
+use Prim.Native.Nat.{◌≤◌, ◌-◌}
+use mathlib.Core.Path.{◌≡◌}
 use lib.ListN.{length}
 use Rattle.model.specs.Words.{word_at}
-use Rattle.words.proofs.Splitting.{rest, begins, goes_on, between, passed, is_found, ends_between, ends_short, ends_found, zeroth}
-use Rattle.words.proofs.Asked.{empty_part}
-use borrow.Author.Rules.{rules}
-use native.Mathlib.Omega.{arith}
+use Rattle.words.proofs.Splitting.{rest}
 use Rattle.words.proofs.splitter.locate.Given as goal
 
 abbrev pub invariant-loop-i : goal.invariant-loop-i
