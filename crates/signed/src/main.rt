@@ -3,12 +3,21 @@
 
 use std::io;
 
+// A word, then a number.
+fn say(rt: &impl Print, label: &str, number: u64) -> io::Result<()> {
+    print!(rt; "{label}{number}")
+}
+
 // One signing: the text's length, the width, k, the answer and the signature. The answer begins as a number that no call gives.
 fn show(rt: &impl Print, text: &[u8], width: u32, k: u32) -> io::Result<u64> {
     let mut answer = 99;
     let signature = words::sign(text, width, k, &mut answer);
-    let bytes = text.len();
-    println!(rt; "bytes {bytes} width {width} k {k} answer {answer} signature {signature}")?;
+    say(rt, "bytes ", text.len() as u64)?;
+    say(rt, " width ", width as u64)?;
+    say(rt, " k ", k as u64)?;
+    say(rt, " answer ", answer as u64)?;
+    say(rt, " signature ", signature)?;
+    println!(rt; "")?;
     Ok(signature)
 }
 
@@ -16,13 +25,18 @@ fn show(rt: &impl Print, text: &[u8], width: u32, k: u32) -> io::Result<u64> {
 fn split(rt: &impl Print, text: &[u8], n: u32) -> io::Result<()> {
     let mut answer = 99;
     let word = words::word(text, n, &mut answer);
-    let bytes = word.len();
-    print!(rt; "word {n} answer {answer} bytes {bytes} [")?;
+    say(rt, "word ", n as u64)?;
+    say(rt, " answer ", answer as u64)?;
+    say(rt, " bytes ", word.len() as u64)?;
+    print!(rt; " [")?;
     rt.write_all(word)?;
     let mut start = 0;
     let mut size = 0;
     let placed = words::word_place(text, n, &mut start, &mut size);
-    println!(rt; "] answer {placed} start {start} size {size}")
+    say(rt, "] answer ", placed as u64)?;
+    say(rt, " start ", start as u64)?;
+    say(rt, " size ", size as u64)?;
+    println!(rt; "")
 }
 
 // Document 01's triplets at width 12, and words of 1, 2 and 3 bytes.
@@ -68,9 +82,9 @@ fn covered(rt: &impl Print) -> io::Result<()> {
     let block = show(rt, b"the quick brown fox\njumps", 64, 3)?;
     let query = show(rt, b"fox the", 64, 3)?;
     let other = show(rt, b"lazy dog", 64, 3)?;
-    let of_query = signature::covers(block, query) as u64;
-    let of_other = signature::covers(block, other) as u64;
-    println!(rt; "covers {of_query} {of_other}")
+    say(rt, "covers ", signature::covers(block, query) as u64)?;
+    say(rt, " ", signature::covers(block, other) as u64)?;
+    println!(rt; "")
 }
 
 // The words of a text, counted from 1, and the empty part where there is none.
