@@ -1,7 +1,7 @@
 -- The chain's walk: its steps as the code takes them; where it is fit, the blocks that it met are a chain of the signature, and such
 -- a chain is fit where its blocks are lent.
 -- Assumes nothing.
-use Prim.Native.Nat.{ℕ, zero, suc, ◌+◌, ◌-◌, ◌≤◌, ◌<◌}
+use Prim.Native.Nat.{ℕ, zero, suc, ◌+◌, ◌-◌, ◌≤◌}
 use native.Mathlib.Decide.{ℕ_discrete}
 use native.Mathlib.Omega.{arith}
 use mathlib.Core.Path.{◌≡◌, refl, sym, ◌∙◌, ap, subst}
@@ -11,18 +11,16 @@ use mathlib.Core.List.Memᴰ
 use mathlib.Core.List.{List, [], ◌∷◌, Memᴰ}
 use lib.Dec.{eqb, ltb}
 use lib.ListN.{length}
-use borrow.Author.Tests.{eq-eqb, ne_eqb, lt-ltb, le-ltb, eqb-true, ltb-false}
+use borrow.Author.Tests.{eq-eqb, ne_eqb, le-ltb, eqb-true, ltb-false}
+use Rattle.std.specs.Prelude.{Option, None, Some}
 use Rattle.model.specs.Tables.{next_of, filed_of, signature_of}
 use Rattle.model.specs.Sound.{Chain}
-use Rattle.audit.specs.declared.chain.Chained.{Chained}
-use Rattle.audit.specs.Audit.{block_ok, stuck, chain_twin}
-use Rattle.model.proofs.Picks.{no_bool, pick_false, pick_true}
+use Rattle.audit.specs.Audit.{block_ok, chain_twin}
+use Rattle.model.proofs.Picks.{pick_false, pick_true}
 
-pub pos_ne : {b : ℕ} → 0 < b → b ≡ 0 → ⊥
-pos_ne h e = omega arith
-
-pub le_none : {b : ℕ} → b ≤ 0 → b ≡ 0
-le_none h = omega arith
+-- what is not there is nothing's
+pub no_some : {A T : Type 0} {x : A} → None ≡ Some x → T
+no_some e = absurd (cc)
 
 -- a block on a chain of signature s
 pub record BlockIs (S L : List ℕ) (s b : ℕ) : Type 0 where
@@ -41,33 +39,19 @@ block_whole : (S L : List ℕ) (s b : ℕ) → BlockIs S L s b → block_ok S L 
 unfolding block_ok
 block_whole S L s b x = simp (le-ltb _ _ x.to, eq-eqb _ _ x.filed, eq-eqb _ _ x.same)
 
--- the test of a block, as the code takes it
-pub block_far : (S L : List ℕ) (s b : ℕ) → length S < b → block_ok S L s b ≡ false
-unfolding block_ok
-block_far S L s b h = simp (lt-ltb _ _ h)
-
-module _ (S L : List ℕ) (s b : ℕ) (to : b ≤ length S) {f : ℕ} (at_f : f ≡ filed_of L b) where
-  pub block_unfiled : f ≢ 1 → block_ok S L s b ≡ false
-  unfolding block_ok
-  block_unfiled h = let n : filed_of L b ≢ 1 = λ e. h (at_f ∙ e) in simp (le-ltb _ _ to, ne_eqb _ _ n)
-
-  pub block_filed : f ≡ 1 → (x : ℕ) → x ≡ signature_of S b → eqb x s ≡ block_ok S L s b
-  unfolding block_ok
-  block_filed h x e = let o : filed_of L b ≡ 1 = sym at_f ∙ h in simp (le-ltb _ _ to, eq-eqb _ _ o) (ap (λ (n : ℕ). eqb n s) e)
-
 -- the steps of a chain's walk
 module _ (S L : List ℕ) (s b : ℕ) where
-  pub chain_end : (k : ℕ) → b ≡ 0 → chain_twin k S L s b ≡ record { fit = true; left = k }
+  pub chain_end : (k : ℕ) → b ≡ 0 → chain_twin k S L s b ≡ Some k
   unfolding chain_twin
   chain_end zero e = simp (eq-eqb b 0 e)
   chain_end (suc k) e = simp (eq-eqb b 0 e)
 
-  pub chain_none : (k : ℕ) → k ≡ 0 → (b ≡ 0 → ⊥) → chain_twin k S L s b ≡ stuck
+  pub chain_none : (k : ℕ) → k ≡ 0 → (b ≡ 0 → ⊥) → chain_twin k S L s b ≡ None
   unfolding chain_twin
   chain_none zero e ne = simp (ne_eqb b 0 ne)
   chain_none (suc k) e ne = absurd (omega arith)
 
-  pub chain_stop : (k : ℕ) → (b ≡ 0 → ⊥) → block_ok S L s b ≡ false → chain_twin k S L s b ≡ stuck
+  pub chain_stop : (k : ℕ) → (b ≡ 0 → ⊥) → block_ok S L s b ≡ false → chain_twin k S L s b ≡ None
   unfolding chain_twin
   chain_stop zero ne e = simp (ne_eqb b 0 ne)
   chain_stop (suc k) ne e = simp (ne_eqb b 0 ne, e)
@@ -107,18 +91,18 @@ module _ (S L : List ℕ) where
     pub good : Good s list
     pub used : length list + left ≡ k
 
-  abbrev pub ChainIs : ℕ → ℕ → ℕ → Chained → Type 0
-  ChainIs s k b c = c.fit ≡ true → ChainYes s k b c.left
+  abbrev pub ChainIs : ℕ → ℕ → ℕ → Option ℕ → Type 0
+  ChainIs s k b c = (left : ℕ) → c ≡ Some left → ChainYes s k b left
 
   chain_over : (s k b : ℕ) → b ≡ 0 → ChainIs s k b (chain_twin k S L s b)
-  chain_over s k b e = subst (ChainIs s k b) (sym (chain_end S L s b k e)) (λ x. record { list = []; from = e; good = λ c m. absurd (Memᴰ.not-nil m); used = omega arith })
+  chain_over s k b e = subst (ChainIs s k b) (sym (chain_end S L s b k e)) (λ left x. let i : k ≡ left = cc in record { list = []; from = e; good = λ c m. absurd (Memᴰ.not-nil m); used = omega arith })
 
   pub chain_yes : (s k b : ℕ) → ChainIs s k b (chain_twin k S L s b)
   chain_yes s zero b = go (ℕ_discrete b 0)
     where
       go : Dec (b ≡ 0) → ChainIs s zero b (chain_twin zero S L s b)
       go (yes e) = chain_over s zero b e
-      go (no ne) = subst (ChainIs s zero b) (sym (chain_none S L s b zero refl ne)) (λ x. no_bool x)
+      go (no ne) = subst (ChainIs s zero b) (sym (chain_none S L s b zero refl ne)) (λ left x. no_some x)
   chain_yes s (suc k) b = go (ℕ_discrete b 0) (block_ok S L s b) refl (chain_yes s k (next_of L b))
     where
       more : b ≢ 0 → BlockIs S L s b → (left : ℕ) → ChainYes s k (next_of L b) left → ChainYes s (suc k) b left
@@ -130,11 +114,11 @@ module _ (S L : List ℕ) where
 
       go : Dec (b ≡ 0) → (t : Bool) → block_ok S L s b ≡ t → ChainIs s k (next_of L b) (chain_twin k S L s (next_of L b)) → ChainIs s (suc k) b (chain_twin (suc k) S L s b)
       go (yes e) t q ih = chain_over s (suc k) b e
-      go (no ne) false q ih = subst (ChainIs s (suc k) b) (sym (chain_stop S L s b (suc k) ne q)) (λ x. no_bool x)
-      go (no ne) true q ih = subst (ChainIs s (suc k) b) (sym (chain_step_is S L s b k ne q)) (λ x. more ne (block_yes S L s b q) _ (ih x))
+      go (no ne) false q ih = subst (ChainIs s (suc k) b) (sym (chain_stop S L s b (suc k) ne q)) (λ left x. no_some x)
+      go (no ne) true q ih = subst (ChainIs s (suc k) b) (sym (chain_step_is S L s b k ne q)) (λ left x. more ne (block_yes S L s b q) left (ih left x))
 
-  pub chain_whole : (s left : ℕ) (list : List ℕ) (k b : ℕ) → From (length S) L b list → Good s list → k ≡ length list + left → chain_twin k S L s b ≡ record { fit = true; left = left }
-  chain_whole s left [] k b q g u = let i : k ≡ left = omega arith in chain_end S L s b k q ∙ ap (λ (x : ℕ). record { fit = true; left = x }) i
+  pub chain_whole : (s left : ℕ) (list : List ℕ) (k b : ℕ) → From (length S) L b list → Good s list → k ≡ length list + left → chain_twin k S L s b ≡ Some left
+  chain_whole s left [] k b q g u = let i : k ≡ left = omega arith in chain_end S L s b k q ∙ ap (λ (x : ℕ). Some x) i
   chain_whole s left (c ∷ cs) zero b q g u = absurd (omega arith)
   chain_whole s left (c ∷ cs) (suc k) b q g u =
       let j : b ≡ c = q.0 in

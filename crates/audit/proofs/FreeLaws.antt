@@ -1,18 +1,21 @@
 -- The free chain's walk: its steps as the code takes them, and that it says yes exactly of a free chain of so many nodes.
 -- Assumes nothing.
-use Prim.Native.Nat.{ℕ, zero, suc, ◌-◌, ◌≤◌, ◌<◌}
+use Prim.Native.Nat.{ℕ, zero, suc, ◌+◌, ◌-◌, ◌≤◌, ◌<◌}
 use native.Mathlib.Omega.{arith}
 use mathlib.Core.Path.{◌≡◌, refl, sym, ap, subst}
 use mathlib.Core.Logic.{◌≢◌}
-use mathlib.Core.Bool.{true, false}
+use mathlib.Core.Bool.{Bool, true, false}
 use mathlib.Core.List.{List, [], ◌∷◌}
 use lib.Dec.{eqb, leb}
 use lib.ListN.{length}
-use borrow.Author.Tests.{eq-eqb, ne_eqb, le-leb, lt-leb, eqb-true, eqb-false, leb-false}
+use borrow.Author.Tests.{eq-eqb, ne_eqb, lt-leb, eqb-true, eqb-false, leb-false}
+use Rattle.std.specs.Prelude.{None, Some}
+use Rattle.model.specs.Basics.{pick}
 use Rattle.model.specs.Tables.{position_of, left_of, right_of}
 use Rattle.model.specs.Sound.{FreeChain}
-use Rattle.audit.specs.Audit.{free_ok, free_twin}
+use Rattle.audit.specs.Audit.{free_ok, after_free, free_twin}
 use Rattle.model.proofs.Picks.{pick_false, pick_true}
+use Rattle.audit.proofs.ChainLaws.{no_some}
 
 -- a node on the free chain
 record FreeIs (L : List ℕ) (B r : ℕ) : Type 0 where
@@ -31,45 +34,30 @@ module _ (L : List ℕ) (B r : ℕ) where
       let nz : r ≢ 0 = eqb-false r 0 p1.0 in
       record { from = omega arith; below = leb-false B r p2.0; position = eqb-true _ _ p3.0; right = eqb-true _ _ p3.1 }
 
-  pub free_in : free_ok L B r ≡ true → r < B
-  free_in e = (free_is e).below
+-- the steps of the walk, as the code takes them, with c of n nodes behind it
+module _ (L : List ℕ) (B r n c : ℕ) where
+  pub free_first : (f : ℕ) → r ≡ f → free_twin n L B f ≡ free_twin (n - 0) L B r
+  free_first f e = let z : n - 0 ≡ n = omega arith in rw (z, e)
 
-  pub free_from_one : free_ok L B r ≡ true → 1 ≤ r
-  free_from_one e = (free_is e).from
-
-  -- the test of a node, as the code takes it
-  pub free_zero : r ≡ 0 → free_ok L B r ≡ false
-  unfolding free_ok
-  free_zero z = simp (eq-eqb _ _ z)
-
-  pub free_far : r ≢ 0 → B ≤ r → free_ok L B r ≡ false
-  unfolding free_ok
-  free_far nz h = simp (ne_eqb _ _ nz, le-leb _ _ h)
-
-  module _ (nz : r ≢ 0) (h : r < B) {p : ℕ} (at : p ≡ position_of B L r) where
-    pub free_tests : p ≢ 0 → free_ok L B r ≡ false
-    unfolding free_ok
-    free_tests n = simp (ne_eqb _ _ nz, lt-leb _ _ h, ← at, ne_eqb _ _ n)
-
-    pub free_blank : p ≡ 0 → (x : ℕ) → x ≡ right_of B L r → eqb x 0 ≡ free_ok L B r
-    unfolding free_ok
-    free_blank z x e = simp (ne_eqb _ _ nz, lt-leb _ _ h, ← at, eq-eqb _ _ z) (ap (λ (n : ℕ). eqb n 0) e)
-
-  -- the steps of the walk
-  pub free_end : (k : ℕ) → k ≤ 0 → free_twin k L B r ≡ eqb r 0
+  pub free_end : n ≤ c → free_twin (n - c) L B r ≡ eqb r 0
   unfolding free_twin
-  free_end zero h = refl
-  free_end (suc k) h = absurd (omega arith)
+  free_end h = let z : n - c ≡ 0 = omega arith in rw z
 
-  pub free_stop : (k : ℕ) → 0 < k → free_ok L B r ≡ false → free_twin k L B r ≡ false
+  pub free_stop : c < n → None ≡ after_free L B r → free_twin (n - c) L B r ≡ false
   unfolding free_twin
-  free_stop zero h e = absurd (omega arith)
-  free_stop (suc k) h e = simp e
+  free_stop h e = let d : n - c ≡ suc (n - (c + 1)) = omega arith in rw d (go (free_ok L B r) e)
+    where
+      go : (t : Bool) → None ≡ pick t (Some (left_of B L r)) None → pick t (free_twin (n - (c + 1)) L B (left_of B L r)) false ≡ false
+      go true e = no_some e
+      go false e = refl
 
-  pub free_go : (k : ℕ) → 0 < k → free_ok L B r ≡ true → free_twin k L B r ≡ free_twin (k - 1) L B (left_of B L r)
+  pub free_go : c < n → (x : ℕ) → Some x ≡ after_free L B r → free_twin (n - c) L B r ≡ free_twin (n - (c + 1)) L B x
   unfolding free_twin
-  free_go zero h e = absurd (omega arith)
-  free_go (suc k) h e = let d : suc k - 1 ≡ k = omega arith in rw (d, e)
+  free_go h x e = let d : n - c ≡ suc (n - (c + 1)) = omega arith in rw d (go (free_ok L B r) e)
+    where
+      go : (t : Bool) → Some x ≡ pick t (Some (left_of B L r)) None → pick t (free_twin (n - (c + 1)) L B (left_of B L r)) false ≡ free_twin (n - (c + 1)) L B x
+      go true e = let i : left_of B L r ≡ x = cc in ap (free_twin (n - (c + 1)) L B) i
+      go false e = no_some (sym e)
 
 -- a free chain of k nodes from node r
 pub record FreeYes (L : List ℕ) (B k r : ℕ) : Type 0 where

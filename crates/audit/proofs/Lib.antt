@@ -13,3 +13,5 @@ pub mod Verdict
 pub mod Work
 mod Examples
 pub mod Either
+pub mod InForm
+pub mod Asked

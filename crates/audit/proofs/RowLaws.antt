@@ -1,20 +1,21 @@
 -- The rows' test: it says yes exactly where each row is in order, and the code takes it row by row.
 -- Assumes nothing.
-use Prim.Native.Nat.{ℕ, zero, suc, ◌+◌, ◌^◌, ◌≤◌, ◌<◌}
+use Prim.Native.Nat.{ℕ, zero, suc, ◌+◌, ◌-◌, ◌^◌, ◌≤◌, ◌<◌}
 use native.Mathlib.Decide.{ℕ_discrete}
-use native.Mathlib.Numerals.{add-one}
 use native.Mathlib.Omega.{arith}
 use mathlib.Core.Path.{◌≡◌, refl, sym, ◌∙◌, ap, subst}
-use mathlib.Core.Logic.{◌≢◌}
 use mathlib.Core.Bool.{Bool, true, false}
 use mathlib.Core.List.{List}
 use lib.Dec.{eqb, ltb}
+use lib.ListN.{length}
+use Rattle.std.specs.Prelude.{None, Some}
 use borrow.Author.Tests.{eq-eqb, ne_eqb, lt-ltb, eqb-true, ltb-true}
 use Rattle.model.specs.Basics.{pick}
 use Rattle.model.specs.Tables.{width_of, next_of, filed_of, signature_of}
 use Rattle.model.specs.Sound.{filed_up_to}
-use Rattle.audit.specs.Audit.{row_ok, rows_ok}
+use Rattle.audit.specs.Audit.{row_ok, rows_ok, rows_twin}
 use Rattle.model.proofs.Picks.{pick_true}
+use Rattle.audit.proofs.ChainLaws.{no_some}
 
 -- a row in order
 pub record RowIs (F s x f : ℕ) : Type 0 where
@@ -44,24 +45,6 @@ row_whole F s x f r = go (ℕ_discrete f 0)
     go (yes z) = simp (lt-ltb _ _ r.narrow, eq-eqb f 0 z, eq-eqb _ _ (r.blank z).0, eq-eqb _ _ (r.blank z).1)
     go (no nz) = let h = r.bit in let i : f ≡ 1 = omega arith in simp (lt-ltb _ _ r.narrow, ne_eqb f 0 nz, eq-eqb _ _ i)
 
--- the test of a row, as the code takes it
-pub row_wide : (F s x f : ℕ) → ltb s (2 ^ F) ≡ false → row_ok F s x f ≡ false
-unfolding row_ok
-row_wide F s x f e = simp e
-
-module _ (F s x f : ℕ) (narrow : ltb s (2 ^ F) ≡ true) where
-  pub row_blank : f ≡ 0 → x ≡ 0 → eqb s 0 ≡ row_ok F s x f
-  unfolding row_ok
-  row_blank z n = simp (narrow, eq-eqb _ _ z, eq-eqb _ _ n)
-
-  pub row_linked : f ≡ 0 → x ≢ 0 → row_ok F s x f ≡ false
-  unfolding row_ok
-  row_linked z n = simp (narrow, eq-eqb _ _ z, ne_eqb _ _ n)
-
-  pub row_filed : f ≢ 0 → eqb f 1 ≡ row_ok F s x f
-  unfolding row_ok
-  row_filed n = simp (narrow, ne_eqb _ _ n)
-
 module _ (S L : List ℕ) where
   -- block b's row
   abbrev pub Row : ℕ → Type 0
@@ -81,10 +64,15 @@ module _ (S L : List ℕ) where
   rows_whole zero h = refl
   rows_whole (suc n) h = simp (rows_whole n (λ b x y. h b x (omega arith)), row_whole _ _ _ _ (h (suc n) (omega arith) (omega arith)))
 
-  -- the code's steps: row n + 1, of words s, x and f, after n fit rows
-  rows_next : (n : ℕ) (t : Bool) → rows_ok S L n ≡ true → row_ok (width_of L) (signature_of S (n + 1)) (next_of L (n + 1)) (filed_of L (n + 1)) ≡ t → rows_ok S L (n + 1) ≡ t
+  -- the rows before block b are fit, and the count is of them
+  pub record RowsTo (b count : ℕ) : Type 0 where
+    pub fit : rows_ok S L (b - 1) ≡ true
+    pub counted : count ≡ filed_up_to L (b - 1)
+    pub few : count + 1 ≤ b
+
+  pub rows_first : RowsTo 1 0
   unfolding rows_ok
-  rows_next n t e f = rw (add-one n, rows_ok, e) (rw (add-one n) at f)
+  rows_first = record { fit = refl; counted = refl; few = omega arith }
 
   rows_bad : (m n : ℕ) → n ≤ m → rows_ok S L n ≡ false → rows_ok S L m ≡ false
   unfolding rows_ok
@@ -95,12 +83,49 @@ module _ (S L : List ℕ) where
       go (yes i) ih = ap (rows_ok S L) (sym i) ∙ e
       go (no ne) ih = simp (ih (omega arith))
 
-  module _ (n : ℕ) (good : rows_ok S L n ≡ true) {s x f : ℕ} (at_s : s ≡ signature_of S (n + 1)) (at_x : x ≡ next_of L (n + 1)) (at_f : f ≡ filed_of L (n + 1)) where
-    pub rows_step : (t : Bool) → row_ok (width_of L) s x f ≡ t → rows_ok S L (n + 1) ≡ t
-    rows_step t e = rows_next n t good (rw (at_s, at_x, at_f) at e)
+  -- block b's row, of words s, x and f, after fit rows
+  module _ (b count : ℕ) (before : RowsTo b count) {F s x f : ℕ} (at_F : F ≡ width_of L) (at_s : s ≡ signature_of S b) (at_x : x ≡ next_of L b) (at_f : f ≡ filed_of L b) where
+    rows_step : (t : Bool) → row_ok F s x f ≡ t → rows_ok S L b ≡ t
+    unfolding rows_ok
+    rows_step t e = go b before (rw (at_F, at_s, at_x, at_f) at e)
+      where
+        go : (b : ℕ) → RowsTo b count → row_ok (width_of L) (signature_of S b) (next_of L b) (filed_of L b) ≡ t → rows_ok S L b ≡ t
+        go zero r e = let h = r.few in absurd (omega arith)
+        go (suc n) r e = let d : suc n - 1 ≡ n = omega arith in let fit = rw d at r.fit in rw (fit, rows_ok) e
 
-    pub rows_fail : (m : ℕ) → n < m → row_ok (width_of L) s x f ≡ false → rows_ok S L m ≡ false
-    rows_fail m h e = rows_bad m (n + 1) (omega arith) (rows_step false e)
+    filed_step : filed_up_to L b ≡ count + f
+    filed_step = go b before at_f
+      where
+        go : (b : ℕ) → RowsTo b count → f ≡ filed_of L b → filed_up_to L b ≡ count + f
+        go zero r e = let h = r.few in absurd (omega arith)
+        go (suc n) r e = let d : suc n - 1 ≡ n = omega arith in let counted = rw d at r.counted in omega (arith, counted, e)
 
-pub filed_step : (L : List ℕ) (n : ℕ) → filed_up_to L (n + 1) ≡ filed_up_to L n + filed_of L (n + 1)
-filed_step L n = rw (add-one n) (omega arith)
+    pub rows_next : row_ok F s x f ≡ true → RowsTo (b + 1) (count + f)
+    rows_next e =
+        let d : b + 1 - 1 ≡ b = omega arith in
+        record { fit = rw d (rows_step true e); counted = rw d (sym filed_step); few = omega (arith, before.few, (row_yes _ _ _ _ e).bit) }
+
+    pub rows_fail : b ≤ length S → row_ok F s x f ≡ false → None ≡ rows_twin S L
+    rows_fail h e = rw (rows_bad (length S) b h (rows_step false e))
+
+  pub rows_end : (b count : ℕ) → RowsTo b count → b ≡ length S + 1 → Some count ≡ rows_twin S L
+  rows_end b count r e =
+      let d : b - 1 ≡ length S = omega arith in
+      let fit = rw d at r.fit in
+      let counted = rw d at r.counted in
+      rw (fit, ← counted)
+
+  -- what the rows' answer says
+  pub rows_none : None ≡ rows_twin S L → rows_ok S L (length S) ≡ false
+  rows_none e = go (rows_ok S L (length S)) e
+    where
+      go : (t : Bool) → None ≡ pick t (Some (filed_up_to L (length S))) None → t ≡ false
+      go true e = no_some e
+      go false e = refl
+
+  pub rows_some : (n : ℕ) → Some n ≡ rows_twin S L → (rows_ok S L (length S) ≡ true) × (n ≡ filed_up_to L (length S))
+  rows_some n e = go (rows_ok S L (length S)) e
+    where
+      go : (t : Bool) → Some n ≡ pick t (Some (filed_up_to L (length S))) None → (t ≡ true) × (n ≡ filed_up_to L (length S))
+      go true e = (refl, cc)
+      go false e = no_some (sym e)

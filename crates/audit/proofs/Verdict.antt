@@ -12,6 +12,7 @@ use mathlib.Core.List.{List, ◌++◌, Memᴰ}
 use lib.Dec.{eqb}
 use lib.ListN.{length, length-append}
 use borrow.Author.Tests.{eq-eqb, eqb-true}
+use Rattle.std.specs.Prelude.{Option, None, Some}
 use Rattle.model.specs.Tables.{width_of, free_of, count_of, filed_of}
 use Rattle.model.specs.Sound.{nodes_in, blocks_in, filed_up_to, Sound, FitsAt}
 use Rattle.model.specs.Questions.{asks_tables, tables_fit, ask, audit_refusal}
@@ -19,8 +20,8 @@ use Rattle.model.specs.Promises.{unsound, AuditPromise}
 use Rattle.model.proofs.Pigeon.{distinct_fits, down_from, down_from_length, down_from_range, down_from_has, down_from_distinct}
 use Rattle.model.proofs.Members.{full}
 use Rattle.tables.proofs.Fits.{fits_of}
-use Rattle.audit.specs.declared.walk.Part.{Part}
-use Rattle.audit.specs.Audit.{rows_ok, tree_twin, lent_tree, soundb, audit_twin}
+use Rattle.audit.specs.declared.walk.Lent.{Lent}
+use Rattle.audit.specs.Audit.{rows_ok, tree_twin, free_twin, lent_tree, rest_ok, soundb, audit_twin}
 use Rattle.model.proofs.Picks.{no_bool, pick_true}
 use Rattle.audit.proofs.RowLaws.{rows_yes, rows_whole}
 use Rattle.audit.proofs.FreeLaws.{free_yes, free_whole}
@@ -28,6 +29,19 @@ use Rattle.audit.proofs.Counting.{filed_list, filed_length, filed_in, filed_has,
 use Rattle.audit.proofs.Apart.{tree_blocks_distinct, tree_blocks_filed, apart, all_distinct, all_range}
 use Rattle.audit.proofs.WalkYes.{tree_yes}
 use Rattle.audit.proofs.WalkWhole.{tree_whole}
+
+-- a tree that leaves no blocks, and as many nodes as are free
+record RestYes (L : List ℕ) (B : ℕ) (w : Option Lent) : Type 0 where
+  left : Lent
+  is : w ≡ Some left
+  blocks : left.blocks ≡ 0
+  free : free_twin left.nodes L B (free_of L) ≡ true
+
+rest_yes : (L : List ℕ) (B : ℕ) (w : Option Lent) → rest_ok L B w ≡ true → RestYes L B w
+rest_yes L B None e = no_bool e
+rest_yes L B (Some left) e =
+    let p = pick_true (eqb left.blocks 0) _ e in
+    record { left = left; is = refl; blocks = eqb-true _ _ p.0; free = p.1 }
 
 -- the test says yes on tables that fit: they are sound
 pub yes_sound : (S L : List ℕ) → FitsAt (length S) (width_of L) S L → soundb S L ≡ true → Sound S L
@@ -37,14 +51,11 @@ yes_sound S L fit e =
     let F : ℕ = width_of L in
     let p1 = pick_true (rows_ok S L (length S)) _ e in
     let p2 = pick_true (eqb (count_of L) (filed_up_to L (length S))) _ p1.1 in
-    let w : Part = tree_twin S L (lent_tree S L) in
-    let p3 = pick_true w.fit _ p2.1 in
-    let p4 = pick_true (eqb w.left.blocks 0) _ p3.1 in
+    let w = rest_yes L (length S) (tree_twin S L (lent_tree S L)) p2.1 in
     let rows = rows_yes S L (length S) p1.0 in
     let count : count_of L ≡ filed_up_to L (length S) = eqb-true _ _ p2.0 in
-    let g = tree_yes S L (lent_tree S L) p3.0 in
-    let none_left : w.left.blocks ≡ 0 = eqb-true _ _ p4.0 in
-    let fr = free_yes L (length S) w.left.nodes (free_of L) p4.1 in
+    let g = tree_yes S L (lent_tree S L) w.left w.is in
+    let fr = free_yes L (length S) w.left.nodes (free_of L) w.free in
     let bits : (b : ℕ) → 1 ≤ b → b ≤ length S → filed_of L b ≤ 1 = λ b h k. (rows b h k).bit in
     record {
       fits = fit;
@@ -108,6 +119,11 @@ module _ (S L : List ℕ) where
   unfolding audit_twin
   found_unsound e f = simp (e, f)
 
+  -- question 4 is the only one before 11
+  asked : FitsAt (length S) (width_of L) S L → audit_refusal (asks_tables S L) ≡ 0
+  unfolding audit_refusal ask
+  asked f = rw ((fits_of S L).1 f)
+
   -- soundness is decided
   pub decide_sound : Dec (Sound S L)
   decide_sound = go (tables_fit (asks_tables S L)) refl (soundb S L) refl
@@ -126,6 +142,13 @@ module _ (S L : List ℕ) where
       go true e false q z = absurd (omega (arith, found_unsound e q))
       go false e s q z = absurd (omega (arith, refused e))
 
+  -- question 11 alone, of tables of which question 4 says yes
+  pub told_sound : FitsAt (length S) (width_of L) S L → soundb S L ≡ true → AuditPromise S L 0
+  told_sound f e = record { refused = λ x. absurd (x (asked f)); asked = λ x. inl (refl, yes_sound S L f e) }
+
+  pub told_unsound : FitsAt (length S) (width_of L) S L → soundb S L ≡ false → AuditPromise S L unsound
+  told_unsound f e = record { refused = λ x. absurd (x (asked f)); asked = λ x. inr (refl, λ s. no_bool (sym e ∙ sound_yes S L s)) }
+
   -- and keeps its promise
   pub promised : AuditPromise S L (audit_twin S L)
   unfolding audit_refusal ask
@@ -135,9 +158,5 @@ module _ (S L : List ℕ) where
       go false e s q =
           let four : audit_refusal (asks_tables S L) ≡ 4 = rw e in
           record { refused = λ x. refused e ∙ sym four; asked = λ x. absurd (omega arith) }
-      go true e true q =
-          let zero' : audit_refusal (asks_tables S L) ≡ 0 = rw e in
-          record { refused = λ x. absurd (x zero'); asked = λ x. inl (found_sound e q, yes_sound S L ((fits_of S L).0 e) q) }
-      go true e false q =
-          let zero' : audit_refusal (asks_tables S L) ≡ 0 = rw e in
-          record { refused = λ x. absurd (x zero'); asked = λ x. inr (found_unsound e q, λ s. no_bool (sym q ∙ sound_yes S L s)) }
+      go true e true q = rw (found_sound e q) (told_sound ((fits_of S L).0 e) q)
+      go true e false q = rw (found_unsound e q) (told_unsound ((fits_of S L).0 e) q)

@@ -5,17 +5,16 @@ use Prim.Native.Nat.{ℕ, zero, suc, ◌+◌, ◌≤◌}
 use native.Mathlib.Omega.{arith}
 use mathlib.Core.Path.{◌≡◌, refl, sym, ◌∙◌, ap, subst}
 use mathlib.Core.Logic.{◌≢◌}
-use mathlib.Core.Bool.{true}
 use mathlib.Core.List.{List, [], ◌∷◌}
 use lib.Bits.{bit_and}
 use lib.ListN.{length, length-append}
 use borrow.Author.Tests.{eq-eqb, ne_eqb}
+use Rattle.std.specs.Prelude.{Option, Some}
 use Rattle.model.specs.Tree.{Edge, edge}
 use Rattle.model.specs.Tables.{width_of, root_of, position_of, left_of, right_of, signature_of}
 use Rattle.model.specs.Sound.{Shape, tip, fork, Rooted, none, some, Holds, HoldsRoot, nodes, blocks, nodes_in, blocks_in, Placed, PlacedRoot}
 use Rattle.tables.proofs.Trees.{depth, depth_root}
 use Rattle.audit.specs.declared.walk.Lent.{Lent}
-use Rattle.audit.specs.declared.walk.Part.{Part}
 use Rattle.audit.specs.declared.walk.Tested.{Tested}
 use Rattle.audit.specs.Audit.{leaf_of, node_less, walk_twin, untested_all, tree_twin}
 use Rattle.audit.proofs.ChainLaws.{From, chain_from, chain_whole}
@@ -23,8 +22,8 @@ use Rattle.audit.proofs.PathLaws.{Carried, carried_root, left_edge, right_edge, 
 use Rattle.audit.proofs.WalkLaws.{NodeIs, leaf_on, walk_leaf, walk_fork}
 
 -- a fit part, with n nodes and b blocks left
-abbrev pub leaves : ℕ → ℕ → Part
-leaves n b = record { fit = true; left = record { nodes = n; blocks = b } }
+abbrev pub leaves : ℕ → ℕ → Option Lent
+leaves n b = Some (record { nodes = n; blocks = b })
 
 module _ (S L : List ℕ) where
   walk_whole : (t : Shape) (path : List Edge) (k : Tested) (r u : ℕ) (lent : Lent) (n b : ℕ) → Holds (length S) L r t → Placed (width_of L) S L path t → Carried (width_of L) path k → depth t ≤ u

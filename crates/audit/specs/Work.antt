@@ -1,14 +1,13 @@
 -- What an audit looks at, counted along the definitions of Audit.antt: the nodes of the tree, the blocks on its chains and the nodes on
 -- the free chain, each as often as it is looked at. The rows' loop, before them, goes once over the B rows.
 -- Assumes nothing.
-use Rattle.std.specs.Prelude.{ℕ, zero, suc, ◌+◌, ◌-◌, Bool, false, List, eqb, leb, length}
+use Rattle.std.specs.Prelude.{ℕ, zero, suc, ◌+◌, ◌-◌, Bool, false, List, Option, None, Some, eqb, leb, length}
 use Rattle.std.specs.Int.Bits.{bit_and}
 use Rattle.model.specs.Basics.{pick}
 use Rattle.model.specs.Tables.{width_of, root_of, free_of, count_of, next_of, left_of, signature_of}
 use Rattle.model.specs.Sound.{filed_up_to}
 use Rattle.model.specs.Questions.{asks_tables, tables_fit}
 use Rattle.audit.specs.declared.walk.Lent.{Lent}
-use Rattle.audit.specs.declared.walk.Part.{Part}
 use Rattle.audit.specs.declared.walk.Tested.{Tested}
 use Rattle.audit.specs.declared.node.Node.{Node}
 use Rattle.audit.specs.Audit.{rows_ok, block_ok, look_twin, passed_by, node_less, walk_twin, untested_all, tree_twin, free_ok, lent_tree}
@@ -37,16 +36,21 @@ leaf_seen sigs links t r lent =
     pick (eqb r 0) none
     (pick (eqb (bit_and (signature_of sigs r) t.mask) t.edges) (record { nodes = 0; blocks = chain_seen lent.blocks sigs links (signature_of sigs r) r }) none)
 
+-- the right side of a node, which is lent what the left side leaves
+abbrev pub right_seen : (Lent → Seen) → Option Lent → Seen
+right_seen look None = none
+right_seen look (Some left) = look left
+
 -- a node's sides: the left, and the right where the left, as `walk` gives it, is fit
-abbrev pub sides_seen : (Tested → ℕ → Lent → Seen) → (Tested → ℕ → Lent → Part) → Tested → Node → Lent → Seen
+abbrev pub sides_seen : (Tested → ℕ → Lent → Seen) → (Tested → ℕ → Lent → Option Lent) → Tested → Node → Lent → Seen
 sides_seen look walk t d lent =
     plus (look (passed_by t d.weight 0) d.left (node_less lent))
-    (pick (walk (passed_by t d.weight 0) d.left (node_less lent)).fit
-    (look (passed_by t d.weight d.weight) d.right (walk (passed_by t d.weight 0) d.left (node_less lent)).left)
-    none)
+    (right_seen (look (passed_by t d.weight d.weight) d.right) (walk (passed_by t d.weight 0) d.left (node_less lent)))
 
-abbrev pub node_seen : (Tested → ℕ → Lent → Seen) → (Tested → ℕ → Lent → Part) → Tested → Node → Lent → Seen
-node_seen look walk t d lent = pick (eqb lent.nodes 0) none (plus one (pick (eqb d.weight 0) none (sides_seen look walk t d lent)))
+-- the node itself is looked at wherever one is lent
+abbrev pub node_seen : (Tested → ℕ → Lent → Seen) → (Tested → ℕ → Lent → Option Lent) → Tested → Option Node → Lent → Seen
+node_seen look walk t None lent = pick (eqb lent.nodes 0) none one
+node_seen look walk t (Some d) lent = pick (eqb lent.nodes 0) none (plus one (sides_seen look walk t d lent))
 
 unfoldable pub walk_seen : ℕ → List ℕ → List ℕ → Tested → ℕ → Lent → Seen
 walk_seen zero sigs links t r lent = pick (leb r (length sigs)) (leaf_seen sigs links t r lent) none
@@ -63,8 +67,9 @@ free_seen zero links B i = 0
 free_seen (suc k) links B i = pick (free_ok links B i) (suc (free_seen k links B (left_of B links i))) 1
 
 -- the tree's, then the free chain's where the tree is fit and has all filed blocks
-abbrev pub rest_seen : List ℕ → ℕ → Part → ℕ
-rest_seen links B part = pick part.fit (pick (eqb part.left.blocks 0) (free_seen part.left.nodes links B (free_of links)) 0) 0
+abbrev pub rest_seen : List ℕ → ℕ → Option Lent → ℕ
+rest_seen links B None = 0
+rest_seen links B (Some left) = pick (eqb left.blocks 0) (free_seen left.nodes links B (free_of links)) 0
 
 -- does the audit come to the tree? Question 4 says yes, the rows are fit, and word 4 counts the filed ones
 unfoldable pub comes_to_tree : List ℕ → List ℕ → Bool

@@ -1,36 +1,43 @@
-// The verdict on tables that fit: the rows, the count, the tree, and what the tree leaves.
+// The verdict on tables of which question 4 says yes: the rows, the count, the tree, and what the tree leaves.
 ghost use Rattle.std.specs.Prelude.{◌≡◌};
 ghost use Rattle.model.specs.Packed.{unpacked};
-ghost use Rattle.audit.specs.Audit.{Fits, soundb};
+ghost use Rattle.answers.specs.Answers.{answer_of};
+ghost use Rattle.audit.specs.Audit.{soundb, SoundPromise};
 
 use super::free::free_chain;
 use super::rows::check_rows;
 use super::walk::{Lent, whole_tree};
+use answers::Refusal;
+use tables::Form;
+
+// Question 11 alone, of either form.
+pub fn sound<F: Form>(form: &F) -> Result<(), Refusal>
+    ensures { SoundPromise (F.signatures form.now) (unpacked (F.links form.now) (F.nodes form.now)) (answer_of result) }
+{
+    if is_sound(form) {
+        Ok(())
+    } else {
+        Err(Refusal::Unsound)
+    }
+}
 
 // Whether tables that fit are sound. The tree is lent all nodes, and as many blocks as are filed: none may be left over.
-pub(crate) fn sound(signatures: &[u64], links: &[u32], nodes: &[u64]) -> bool
-    requires { Fits signatures.now links.now nodes.now }
-    ensures { result ≡ soundb signatures.now (unpacked links.now nodes.now) }
+fn is_sound<F: Form>(form: &F) -> bool
+    ensures { result ≡ soundb (F.signatures form.now) (unpacked (F.links form.now) (F.nodes form.now)) }
 {
-    let blocks = signatures.len();
-    let rows = check_rows(signatures, links);
-    if !rows.fit {
+    let rows = form.rows();
+    let Some(filed) = check_rows(&rows) else {
+        return false;
+    };
+    if filed != rows.count() {
         return false;
     }
-    // word 4 counts the filed blocks
-    if rows.count == links[4] {
-        let lent = Lent {
-            nodes: blocks as u32 - 1,
-            blocks: rows.count,
-        };
-        let tree = whole_tree(signatures, links, nodes, lent);
-        if !tree.fit {
-            return false;
-        }
-        if tree.left.blocks == 0 {
-            return free_chain(links, nodes, blocks, tree.left.nodes);
-        }
-        return false;
+    let lent = Lent {
+        nodes: rows.blocks() as u32 - 1,
+        blocks: filed,
+    };
+    match whole_tree(form, lent) {
+        Some(left) => left.blocks == 0 && free_chain(form, left.nodes),
+        None => false,
     }
-    false
 }

@@ -1,46 +1,38 @@
 // The free chain: exactly as many nodes as the tree left, each with position and right 0.
-ghost use Rattle.std.specs.Prelude.{◌≡◌, ◌≤◌};
-ghost use Rattle.model.specs.Limits.{most_blocks};
+ghost use Rattle.std.specs.Prelude.{◌≡◌, length};
 ghost use Rattle.model.specs.Tables.{free_of};
 ghost use Rattle.model.specs.Packed.{unpacked};
-ghost use Rattle.tables.specs.Fits.{Forms};
-ghost use Rattle.audit.specs.Audit.{free_ok, free_twin};
+ghost use Rattle.audit.specs.Audit.{after_free, free_twin};
 
-use tables::forms::parts_of;
-use tables::wide;
+use tables::Form;
+use tables::nodes::Parts;
 
-// Whether the node may stand on the free chain.
-pub(crate) fn free_fits(links: &[u32], nodes: &[u64], blocks: usize, node: usize) -> bool
-    requires { (blocks ≤ most_blocks) × Forms blocks links.now nodes.now }
-    ensures { result ≡ free_ok (unpacked links.now nodes.now) blocks node }
+// What the node leads to, where it may stand on the free chain.
+#[tactic(auto, unfolding(crate::specs::Audit::free_ok))]
+fn next_free<F: Form>(form: &F, node: usize) -> Option<u32>
+    ensures { result ≡ after_free (unpacked (F.links form.now) (F.nodes form.now)) (length (F.signatures form.now)) node }
 {
-    if node == 0 {
-        return false;
+    if node == 0 || form.rows().blocks() <= node {
+        return None;
     }
-    if blocks <= node {
-        return false;
-    }
-    let parts = parts_of(links, nodes, blocks, node);
-    if parts.position == 0 {
-        return parts.right == 0;
-    }
-    false
+    let Parts {
+        position,
+        left,
+        right,
+    } = form.node(node);
+    (position == 0 && right == 0).then_some(left)
 }
 
 // Whether the free chain holds exactly so many nodes, and ends.
-pub(crate) fn free_chain(links: &[u32], nodes: &[u64], blocks: usize, many: u32) -> bool
-    requires { (1 ≤ blocks) × (blocks ≤ most_blocks) × Forms blocks links.now nodes.now }
-    ensures { result ≡ free_twin many (unpacked links.now nodes.now) blocks (free_of (unpacked links.now nodes.now)) }
+pub(crate) fn free_chain<F: Form>(form: &F, many: u32) -> bool
+    ensures { result ≡ free_twin many (unpacked (F.links form.now) (F.nodes form.now)) (length (F.signatures form.now)) (free_of (unpacked (F.links form.now) (F.nodes form.now))) }
 {
-    let mut node = wide(links[3]);
-    let mut left = many;
-    while 0 < left {
-        if !free_fits(links, nodes, blocks, node) {
+    let mut node = form.rows().first_free();
+    for _ in 0..many {
+        let Some(next) = next_free(form, node as usize) else {
             return false;
-        }
-        let parts = parts_of(links, nodes, blocks, node);
-        node = wide(parts.left);
-        left -= 1;
+        };
+        node = next;
     }
     node == 0
 }

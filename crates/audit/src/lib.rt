@@ -10,39 +10,24 @@ mod walk;
 
 ghost use Rattle.model.specs.Promises.{AuditPromise};
 ghost use Rattle.model.specs.PackedPromises.{PackedAudit};
+ghost use Rattle.answers.specs.Answers.{answer_of};
 
-use answer::sound;
-use tables::front::{tables_fit, unpacked_fit};
+pub use answer::sound;
+use answers::Refusal;
+use tables::{Tables, Unpacked};
 
-// question 4's no
-const UNFIT: u32 = 4;
-
-// question 11's no
-const UNSOUND: u32 = 11;
-
-// The audit: 4 where question 4 says no, else 0 where the tables are sound, else 11.
-pub fn audit(signatures: &[u64], links: &[u32], nodes: &[u64]) -> u32
-    ensures { PackedAudit signatures.now links.now nodes.now result }
+// The audit: question 4, then 11. The slices come one by one: the caller lends them to be read only.
+pub fn audit(signatures: &[u64], links: &[u32], nodes: &[u64]) -> Result<(), Refusal>
+    ensures { PackedAudit signatures.now links.now nodes.now (answer_of result) }
 {
-    if !tables_fit(signatures, links, nodes) {
-        return UNFIT;
-    }
-    if sound(signatures, links, nodes) {
-        return 0;
-    }
-    UNSOUND
+    let tables = Tables::of(signatures, links, nodes)?;
+    sound(&tables)
 }
 
-// The same of tables in the form of 5 * B + 2 links: the same verdict, with no nodes lent.
-pub fn audit_unpacked(signatures: &[u64], links: &[u32]) -> u32
-    ensures { AuditPromise signatures.now links.now result }
+// The same of tables in the form of 5 * B + 2 links: the same verdict.
+pub fn audit_unpacked(signatures: &[u64], links: &[u32]) -> Result<(), Refusal>
+    ensures { AuditPromise signatures.now links.now (answer_of result) }
 {
-    if !unpacked_fit(signatures, links) {
-        return UNFIT;
-    }
-    let none = &signatures[0..0];
-    if sound(signatures, links, none) {
-        return 0;
-    }
-    UNSOUND
+    let tables = Unpacked::of(signatures, links)?;
+    sound(&tables)
 }

@@ -1,11 +1,11 @@
--- The slices that a clearing fills, a store at a time, hold the definition's tables.
+-- The slices that a clearing fills, hold the definition's tables.
 -- Assumes nothing.
-use Prim.Native.Nat.{ℕ, suc, ◌+◌, ◌-◌, ◌*◌, ◌≤◌}
+use Prim.Native.Nat.{ℕ, ◌+◌, ◌-◌, ◌*◌, ◌≤◌}
 use native.Mathlib.Omega.{arith}
 use mathlib.Core.Path.{◌≡◌, sym, ◌∙◌, ap, ap₂}
-use mathlib.Core.List.{List, [], ◌++◌, append-nil}
-use lib.ListN.{length, set, take, drop, replicate, length-replicate, drop_of_length-le}
-use lib.Seq.{sets, sets-eq, drop-length, take_at}
+use mathlib.Core.List.{List, [], ◌∷◌, ◌++◌, append-nil}
+use lib.ListN.{length, take, drop, replicate, length-replicate, drop_of_length-le}
+use lib.Seq.{sets, sets-eq, take_at}
 use Rattle.model.specs.Tables.{position_at}
 use Rattle.model.specs.Clear.{free_from, free_nodes, clear_links}
 use Rattle.model.specs.Packed.{opened, rows_of, unpacked, Packs}
@@ -13,16 +13,10 @@ use Rattle.model.proofs.Packing.{long_packs}
 use Rattle.tables.proofs.Spelled.{free_length}
 use Rattle.clear.specs.Cleared.{clear_rows}
 
--- a list filled to its end
-pub filled : (l : List ℕ) (n : ℕ) → n ≡ length l → replicate n 0 ++ drop n l ≡ replicate (length l) 0
-filled l n e = rw (e, drop-length l, append-nil)
-
--- the stores in front of the rows
-pub cleared_rows : (B F : ℕ) (n : ℕ) → n ≡ rows_of B → (l : List ℕ) → l ≡ replicate n 0 → (f : ℕ) → f ≡ free_from B 1 → set (set (set l 0 F) 1 B) 3 f ≡ clear_rows B F
+-- the five words and the rows
+pub cleared_rows : (B F n f : ℕ) (words rows : List ℕ) → n ≡ 2 * B → f ≡ free_from B 1 → words ≡ F ∷ B ∷ 0 ∷ f ∷ 0 ∷ [] → rows ≡ replicate n 0 → words ++ rows ≡ clear_rows B F
 unfolding clear_rows
-cleared_rows B F n en l e f g =
-    let z : n ≡ suc (suc (suc (suc (suc (2 * B))))) = omega arith in
-    rw (e, g, z)
+cleared_rows B F n f words rows e g w r = rw (w, r, e, g)
 
 pub rows_length : (B F : ℕ) → length (clear_rows B F) ≡ rows_of B
 unfolding clear_rows

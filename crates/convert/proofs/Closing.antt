@@ -1,11 +1,11 @@
--- What the loops of a packing leave, and its promise.
+-- What the loop of a packing leaves, and its promise.
 -- Assumes nothing.
 use Prim.Native.Nat.{ℕ, suc, ◌+◌, ◌-◌, ◌≤◌, ◌<◌}
 use native.Mathlib.Decide.{ℕ_discrete}
 use native.Mathlib.Omega.{arith}
-use mathlib.Core.Path.{◌≡◌, refl, sym, ◌∙◌, ap, ap₂, subst}
+use mathlib.Core.Path.{◌≡◌, refl, sym, ◌∙◌, ap, ap₂}
 use mathlib.Core.Logic.{◌≢◌, ⊎_elim}
-use mathlib.Core.Bool.{true, false}
+use mathlib.Core.Bool.{true}
 use mathlib.Core.List.{List, [], ◌++◌, append-nil}
 use lib.ListN.{length, get_or, set, take, drop, drop_of_length-le}
 use lib.Seq.{paste, paste-zero, paste-suc, take_all}
@@ -13,12 +13,20 @@ use Rattle.model.specs.Tables.{links_of, position_of, left_of, right_of}
 use Rattle.model.specs.Sound.{Sound}
 use Rattle.model.specs.Questions.{asks_tables, audit_refusal}
 use Rattle.model.specs.Promises.{AuditPromise}
-use Rattle.model.specs.Packed.{node_word, packed_nodes}
+use Rattle.model.specs.Packed.{node_word, packed_nodes, unpacked}
+use Rattle.tables.specs.Fits.{PartsOf}
+use Rattle.tables.proofs.Either.{none_held}
 use Rattle.model.specs.PackedPromises.{packed_fit, PackPromise}
 use Rattle.model.proofs.Asking.{true_false}
 use Rattle.tables.proofs.Fits.{packs}
-use Rattle.convert.proofs.Copying.{copied_over}
 use Rattle.convert.proofs.Fitting.{node_at, nodes_long}
+
+-- the links hold the tables themselves
+pub close_parts : {B : ℕ} {L : List ℕ} {i p l r : ℕ} → PartsOf B (unpacked L []) i p l r → PartsOf B L i p l r
+close_parts {L = L} h = let e = none_held L [] refl in rw e at h
+
+pub close_stored : {B : ℕ} {L : List ℕ} {i p l r : ℕ} → PartsOf B L i p l r → (k : ℕ) (now after : List ℕ) → after ≡ set now k (node_word p l r) → after ≡ set now k (node_word (position_of B L i) (left_of B L i) (right_of B L i))
+close_stored h k now after e = rw (← h.position, ← h.left, ← h.right) e
 
 pub close_start : (nodes Q : List ℕ) → nodes ≡ paste nodes 0 Q (1 - 1)
 close_start nodes Q = paste-zero nodes 0 Q
@@ -47,16 +55,13 @@ audit_yes sigs L answer A z = go (ℕ_discrete (audit_refusal (asks_tables sigs 
     go (yes e) = ⊎_elim (λ x. x.1) (λ x. let y = x.0 in absurd (omega arith)) (A.asked e)
 
 module _ (sigs old links nodes : List ℕ) where
-  pub pack_lengths : packed_fit sigs links nodes ≡ false → PackPromise sigs old links nodes 4 links nodes
-  pack_lengths e = record { unfit = λ _. (refl, refl, refl); asked = λ t. true_false t e; done = λ z. absurd (omega arith) }
-
   module _ (y : packed_fit sigs links nodes ≡ true) (answer : ℕ) (A : AuditPromise sigs old answer) where
     pub pack_tables : answer ≢ 0 → PackPromise sigs old links nodes answer links nodes
     pack_tables n = record { unfit = λ f. true_false y f; asked = λ _. (A, λ _. (refl, refl)); done = λ z. absurd (n z) }
 
-    pub packs_all : answer ≡ 0 → (links' nodes' : List ℕ) → links' ≡ paste links 0 old (length links) → nodes' ≡ packed_nodes (length sigs) old → PackPromise sigs old links nodes 0 links' nodes'
+    pub packs_all : answer ≡ 0 → (links' nodes' : List ℕ) → links' ≡ take (length links) old → nodes' ≡ packed_nodes (length sigs) old → PackPromise sigs old links nodes answer links' nodes'
     packs_all z links' nodes' el en = record {
       unfit = λ f. true_false y f;
-      asked = λ _. (subst (AuditPromise sigs old) z A, λ n. absurd (n refl));
-      done = λ _. (el ∙ copied_over links old (length links) refl ∙ ap (λ (n : ℕ). take n old) (packs sigs links nodes y).rows_long, en);
+      asked = λ _. (A, λ n. absurd (n z));
+      done = λ _. (el ∙ ap (λ (n : ℕ). take n old) (packs sigs links nodes y).rows_long, en);
     }

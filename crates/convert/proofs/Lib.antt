@@ -1,4 +1,3 @@
-pub mod Copying
 pub mod Opening
 pub mod Fitting
 pub mod Closing

@@ -1,97 +1,76 @@
--- What the loops of an unpacking leave.
+-- What the loop of an unpacking leaves, and its promise.
 -- Assumes nothing.
-use Prim.Native.Nat.{ℕ, suc, ◌+◌, ◌*◌, ◌≤◌, ◌<◌}
+use Prim.Native.Nat.{ℕ, ◌+◌, ◌*◌, ◌≤◌, ◌<◌}
 use native.Mathlib.Omega.{arith}
-use mathlib.Core.Path.{◌≡◌, refl, sym, ◌∙◌, ap, ap₂, subst}
-use mathlib.Core.List.{List, [], ◌∷◌, ◌++◌, append-nil}
-use lib.ListN.{length, get_or, set, take, drop, drop_of_length-le, length-append, length-drop}
-use lib.Seq.{sets, sets-eq, take_at, drop-cons, paste}
+use mathlib.Core.Path.{◌≡◌, refl, sym, ◌∙◌, ap, ap₂}
+use mathlib.Core.List.{List, [], ◌∷◌, ◌++◌}
+use native.Mathlib.Numerals.{add-one}
+use lib.ListN.{length, get_or, take}
+use lib.Seq.{take-suc, take_all}
+use borrow.Rule.Slice.PartMut.{put_mid}
+use Rattle.std.proofs.lemmas.Slice.{take-put_mid}
 use mathlib.Core.Logic.{◌≢◌}
 use mathlib.Core.Bool.{Bool, true, false, ◌&&◌}
 use lib.Dec.{eqb}
-use borrow.Author.Tests.{eq-eqb, ne_eqb}
-use Rattle.model.specs.Tables.{links_of}
+use Rattle.model.specs.Tables.{links_of, width_of}
+use Rattle.model.specs.Sound.{FitsAt}
 use Rattle.model.specs.Promises.{AuditPromise}
+use Rattle.model.specs.Questions.{blocks_fit, ask, asks_tables, tables_fit}
+use Rattle.tables.specs.Fits.{FitsPacked}
 use Rattle.model.specs.PackedPromises.{packed_fit, PackedAudit, UnpackPromise}
-use Rattle.model.proofs.Asking.{true_false}
-use Rattle.tables.proofs.Fits.{packs}
+use Rattle.model.proofs.Asking.{true_false, both, ask_zero}
 use Rattle.model.specs.Packed.{position_in, left_in, right_in, opened, unpacked}
-use Rattle.model.proofs.Packing.{length_opened}
-use Rattle.model.proofs.Stores.{sets_append}
-use Rattle.convert.proofs.Copying.{copied_all}
 
--- a node's words come first, then those of the nodes after it
-pub open_turn : (nodes old after whole : List ℕ) (from i w : ℕ) → i < length nodes → w ≡ get_or nodes i 0 → after ≡ sets old (from + 3 * i) (position_in w ∷ left_in w ∷ right_in w ∷ [])
-    → sets old (from + 3 * i) (opened (drop i nodes)) ≡ whole → sets after (from + 3 * (i + 1)) (opened (drop (i + 1) nodes)) ≡ whole
+opened_append : (xs ys : List ℕ) → opened (xs ++ ys) ≡ opened xs ++ opened ys
 unfolding opened
-open_turn nodes old after whole from i w h ew ea e =
-    let o : i + 1 ≡ suc i = omega arith in
-    let a : from + 3 * (i + 1) ≡ from + 3 * i + 3 = omega arith in
-    let three : List ℕ = position_in w ∷ left_in w ∷ right_in w ∷ [] in
-    let rest : List ℕ = opened (drop (suc i) nodes) in
-    let d : opened (drop i nodes) ≡ three ++ rest = ap opened (drop-cons nodes i 0 h) ∙ ap (λ (v : ℕ). position_in v ∷ left_in v ∷ right_in v ∷ rest) (sym ew) in
-    ap₂ (λ (l : List ℕ) (k : ℕ). sets l k (opened (drop (i + 1) nodes))) ea a
-    ∙ ap (λ (k : ℕ). sets (sets old (from + 3 * i) three) (from + 3 * i + 3) (opened (drop k nodes))) o
-    ∙ sym (sets_append old (from + 3 * i) three rest)
-    ∙ ap (sets old (from + 3 * i)) (sym d)
-    ∙ e
+opened_append [] ys = refl
+opened_append (w ∷ xs) ys = ap (λ (l : List ℕ). position_in w ∷ left_in w ∷ right_in w ∷ l) (opened_append xs ys)
 
-pub open_end : (nodes old whole : List ℕ) (k i : ℕ) → length nodes ≤ i → sets old k (opened (drop i nodes)) ≡ whole → old ≡ whole
+-- one node more is written, to three words from its place on
+pub open_more : (nodes words three : List ℕ) (i k : ℕ) → i < length nodes → 3 * i ≤ length words → take (3 * i) words ≡ opened (take i nodes)
+    → three ≡ position_in (get_or nodes i 0) ∷ left_in (get_or nodes i 0) ∷ right_in (get_or nodes i 0) ∷ [] → take (3 * (i + 1)) (put_mid (3 * i) k words three) ≡ opened (take (i + 1) nodes)
 unfolding opened
-open_end nodes old whole k i h e = let z = drop_of_length-le nodes {i = i} h in (rw z at e)
+open_more nodes words three i k h room e et =
+    let long : length three ≡ 3 = ap length et in
+    take-put_mid (3 * i) k words three (3 * (i + 1)) (omega arith) room
+    ∙ ap₂ (λ (x y : List ℕ). x ++ y) e et
+    ∙ sym (opened_append (take i nodes) (get_or nodes i 0 ∷ []))
+    ∙ rw (add-one, take-suc nodes i 0 h) refl
 
--- all of it
-pub unpacked_whole : (links nodes old copied final : List ℕ) → length old ≡ length links + 3 * length nodes → copied ≡ links ++ drop (length links) old
-    → final ≡ sets copied (length links) (opened nodes) → final ≡ unpacked links nodes
-unfolding unpacked
-unpacked_whole links nodes old copied final n ec ef =
-    let X : List ℕ = links ++ drop (length links) old in
-    let l = length-append links (drop (length links) old) in
-    let d = length-drop (length links) old in
-    let o = length_opened nodes in
-    let t : take (length links) X ≡ links = take_at links (drop (length links) old) (length links) refl in
-    let z : drop (length links + length (opened nodes)) X ≡ [] = drop_of_length-le X {i = length links + length (opened nodes)} (omega arith) in
-    ef ∙ ap (λ (x : List ℕ). sets x (length links) (opened nodes)) ec ∙ sets-eq (opened nodes) X (length links) (omega arith)
-    ∙ ap₂ (λ (x y : List ℕ). x ++ opened nodes ++ y) t z ∙ append-nil (links ++ opened nodes)
+-- all of them
+pub open_all : (nodes words : List ℕ) (i : ℕ) → length words ≡ 3 * length nodes → i ≡ length nodes → take (3 * i) words ≡ opened (take i nodes) → words ≡ opened nodes
+open_all nodes words i l e h =
+    sym (take_all (3 * i) words (omega arith)) ∙ h ∙ ap opened (take_all i nodes (omega arith))
 
-pub node_written : (old : List ℕ) (at w p l r : ℕ) → p ≡ position_in w → l ≡ left_in w → r ≡ right_in w → set (set (set old at p) (at + 1) l) (at + 2) r ≡ sets old at (position_in w ∷ left_in w ∷ right_in w ∷ [])
-node_written old at w p l r ep el er =
-    let a : at + 1 ≡ suc at = omega arith in
-    let b : at + 2 ≡ suc (suc at) = omega arith in
-    rw (a, b, ep, el, er) refl
+-- what an audit of tables that are read of the slices promises of these
+pub answered_packed : {sigs links nodes S L N : List ℕ} (answer : ℕ) → (S ≡ sigs) × (L ≡ links) × (N ≡ nodes) → FitsPacked S L N
+    → 0 ≡ ask 4 (packed_fit sigs links nodes && tables_fit (asks_tables sigs (unpacked links nodes))) 0
+    → (FitsAt (length S) (width_of (unpacked L N)) S (unpacked L N) → AuditPromise S (unpacked L N) answer) → PackedAudit sigs links nodes answer
+answered_packed answer same fits asked told =
+    let yes = (ask_zero 3 _ 0 (sym asked)).0 in
+    record { unfit = λ f. true_false (both yes).0 f; asked = λ _. rw (← same.0, ← same.1, ← same.2) (told fits.fits) }
 
-pub open_start : (nodes old : List ℕ) (from : ℕ) → sets old (from + 3 * 0) (opened (drop 0 nodes)) ≡ sets old from (opened nodes)
-open_start nodes old from = let z : from + 3 * 0 ≡ from = omega arith in rw z
+left_no : (t u : Bool) → u ≡ true → (t && u) ≡ false → t ≡ false
+left_no true u e f = true_false e f
+left_no false u e f = refl
 
 -- the promise
 module _ (sigs links nodes old : List ℕ) where
-  abbrev fit : Bool
-  fit = packed_fit sigs links nodes
-
+  -- the target's length
   abbrev target : Bool
-  target = eqb (length old) (links_of (length sigs))
+  target = blocks_fit (length sigs) && eqb (length old) (links_of (length sigs))
 
-  four : ((fit && target) ≡ false) → UnpackPromise sigs links nodes old 4 old
-  four e = record { unfit = λ _. (refl, refl); asked = λ t. true_false t e; done = λ z. absurd (omega arith) }
+  module _ (t : target ≡ true) (answer : ℕ) (A : PackedAudit sigs links nodes answer) where
+    unfit : packed_fit sigs links nodes && eqb (length old) (links_of (length sigs)) ≡ false → packed_fit sigs links nodes ≡ false
+    unfit f = left_no _ _ (both t).1 f
 
-  pub refuses_lengths : packed_fit sigs links nodes ≡ false → UnpackPromise sigs links nodes old 4 old
-  refuses_lengths e = four (ap (λ (t : Bool). t && target) e)
+    pub refuses_tables : answer ≢ 0 → UnpackPromise sigs links nodes old answer old
+    refuses_tables n = record { unfit = λ f. ((A.unfit (unfit f)).0, refl); asked = λ f. (A.asked (both f).0, λ _. refl); done = λ z. absurd (n z) }
 
-  module _ (y : packed_fit sigs links nodes ≡ true) where
-    pub refuses_target : (length old ≡ links_of (length sigs) → ⊥) → UnpackPromise sigs links nodes old 4 old
-    refuses_target n = four (ap₂ (λ (t u : Bool). t && u) y (ne_eqb _ _ n))
-
-    module _ (t : length old ≡ links_of (length sigs)) where
-      yes : (fit && target) ≡ true
-      yes = ap₂ (λ (t u : Bool). t && u) y (eq-eqb _ _ t)
-
-      pub refuses_tables : (answer : ℕ) → PackedAudit sigs links nodes answer → answer ≢ 0 → UnpackPromise sigs links nodes old answer old
-      refuses_tables answer A n = record { unfit = λ f. true_false yes f; asked = λ _. (A.asked y, λ _. refl); done = λ z. absurd (n z) }
-
-      pub unpacks : (answer : ℕ) → PackedAudit sigs links nodes answer → answer ≡ 0 → (copied final : List ℕ) → copied ≡ paste old 0 links (length links)
-          → final ≡ sets copied (length links) (opened nodes) → UnpackPromise sigs links nodes old 0 final
-      unpacks answer A z copied final ec ef = record {
-        unfit = λ f. true_false yes f;
-        asked = λ _. (subst (AuditPromise sigs (unpacked links nodes)) z (A.asked y), λ n. absurd (n refl));
-        done = λ _. unpacked_whole links nodes old copied final (omega (arith, t, (packs sigs links nodes y).rows_long, (packs sigs links nodes y).nodes_long)) (ec ∙ copied_all old links (length links) refl) ef;
-      }
+    pub unpacks : answer ≡ 0 → (rows words : List ℕ) → rows ≡ links → words ≡ opened nodes → UnpackPromise sigs links nodes old answer (rows ++ words)
+    unfolding unpacked
+    unpacks z rows words er ew = record {
+      unfit = λ f. absurd (omega (arith, (A.unfit (unfit f)).0));
+      asked = λ f. (A.asked (both f).0, λ n. absurd (n z));
+      done = λ _. ap₂ (λ (x y : List ℕ). x ++ y) er ew;
+    }

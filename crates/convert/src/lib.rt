@@ -1,103 +1,83 @@
-// From one form of the tables to the other, over the same signatures.
+// From one form of the tables to the other, over the same signatures. The slices come one by one: the face of C lends some of each form
+// to be read only.
 #![tactic(auto)]
 
-ghost use Rattle.std.specs.Prelude.{◌≡◌, [], ◌∷◌, ◌+◌, ◌*◌, ◌≤◌, ◌<◌, length};
-ghost use Rattle.std.proofs.lemmas.List.Edits.{sets};
-ghost use Rattle.std.proofs.Math.Seq.{paste};
-ghost use Rattle.model.specs.Tables.{links_of};
-ghost use Rattle.model.specs.Packed.{position_in, left_in, right_in, opened, packed_nodes};
-ghost use Rattle.convert.specs.Fitting.{NodesFit};
+ghost use Rattle.std.specs.Prelude.{◌≡◌, ◌+◌, ◌*◌, ◌≤◌, length};
+ghost use Rattle.answers.specs.Answers.{answer_of};
+ghost use Rattle.model.specs.Packed.{opened, packed_nodes};
 ghost use Rattle.model.specs.PackedPromises.{PackPromise, UnpackPromise};
+ghost use Rattle.convert.specs.Fitting.{NodesFit};
 
-use tables::nodes::{left_in, position_in, right_in, set_node};
+use answers::Refusal;
+use tables::nodes::{Parts, parts_in, set_node};
+use tables::{Form, Tables, Unpacked, front};
 
-// question 4: the lengths, B, F and words 0 and 1 do not fit, the target's lengths among them
-const UNFIT: u32 = 4;
-
-// The five words and the rows, from the front of one form's links to that of the other's.
-fn copy_rows(from: &[u32], to: &mut [u32], rows: usize)
-    requires { (rows ≤ length from.now) × (rows ≤ length to.old) × (rows ≤ 131075) }
-    ensures { to.new ≡ paste to.old 0 from.now rows }
+// The three words of each node. They are written by index: of what was written through `chunks_exact_mut` a proof knows the length alone.
+fn open_nodes(nodes: &[u64], words: &mut [u32])
+    requires { (length words.old ≡ 3 * length nodes.now) × (length nodes.now ≤ 65535) }
+    ensures { words.new ≡ opened nodes.now }
 {
-    let mut i: usize = 0;
-    while i < rows {
-        to[i] = from[i];
-        i += 1;
+    for (i, node) in nodes.iter().enumerate() {
+        let Parts {
+            position,
+            left,
+            right,
+        } = parts_in(*node);
+        words[3 * i..3 * i + 3].copy_from_slice(&[position, left, right]);
     }
 }
 
-// The three words of a node.
-fn write_node(old: &mut [u32], at: usize, word: u64)
-    requires { (at + 2 < length old.old) × (at < 500000) }
-    ensures { old.new ≡ sets old.old at (position_in word ∷ left_in word ∷ right_in word ∷ []) }
+// Unpacks sound tables: question 4, of the target's length too, then 11; a refusal changes nothing.
+pub fn unpack(
+    signatures: &[u64],
+    links: &[u32],
+    nodes: &[u64],
+    old: &mut [u32],
+) -> Result<(), Refusal>
+    ensures { UnpackPromise signatures.now links.now nodes.now old.old (answer_of result) old.new }
 {
-    old[at] = position_in(word);
-    old[at + 1] = left_in(word);
-    old[at + 2] = right_in(word);
-}
-
-// The words of all nodes, from `from` on.
-fn open_nodes(nodes: &[u64], old: &mut [u32], from: usize)
-    requires { (from + 3 * length nodes.now ≤ length old.old) × (length nodes.now ≤ 65535) × (from ≤ 131075) }
-    ensures { old.new ≡ sets old.old from (opened nodes.now) }
-{
-    let n = nodes.len();
-    let mut i: usize = 0;
-    while i < n {
-        write_node(old, from + 3 * i, nodes[i]);
-        i += 1;
+    if !front::unpacked_lengths(signatures.len(), old.len()) {
+        return Err(Refusal::Unfit);
     }
-}
-
-// Unpacks sound tables: 4 or 11 where they are not fit or not sound, and then nothing changes.
-pub fn unpack(signatures: &[u64], links: &[u32], nodes: &[u64], old: &mut [u32]) -> u32
-    ensures { UnpackPromise signatures.now links.now nodes.now old.old result old.new }
-{
-    let blocks = signatures.len();
-    let rows = links.len();
-    if !tables::front::lengths_fit(blocks, rows, nodes.len()) {
-        return UNFIT;
-    }
-    if old.len() == 5 * blocks + 2 {
-        let answer = audit::audit(signatures, links, nodes);
-        if answer != 0 {
-            return answer;
-        }
-        copy_rows(links, old, rows);
-        open_nodes(nodes, old, rows);
-        return 0;
-    }
-    UNFIT
+    let tables = Tables::of(signatures, links, nodes)?;
+    audit::sound(&tables)?;
+    let (rows, words) = old.split_at_mut(links.len());
+    rows.copy_from_slice(links);
+    open_nodes(nodes, words);
+    Ok(())
 }
 
 // One word for each node.
-fn close_nodes(old: &[u32], nodes: &mut [u64], blocks: usize)
-    requires le_blocks { (1 ≤ blocks) × (blocks ≤ 65535) × (length old.now ≡ links_of blocks) × (length nodes.old + 1 ≡ blocks) }
-    requires nodes_fit { NodesFit blocks old.now }
-    ensures { nodes.new ≡ packed_nodes blocks old.now }
+fn close_nodes(tables: &Unpacked, nodes: &mut [u64])
+    requires length { length nodes.old + 1 ≡ length tables.now.rows.signatures.now }
+    requires nodes_fit { NodesFit (length tables.now.rows.signatures.now) tables.now.rows.links.now }
+    ensures { nodes.new ≡ packed_nodes (length tables.now.rows.signatures.now) tables.now.rows.links.now }
 {
-    let mut i: usize = 1;
-    while i < blocks {
-        let at = 2 * blocks + 3 * i;
-        set_node(nodes, i, old[at + 2], old[at + 3], old[at + 4]);
-        i += 1;
+    for node in 1..tables.rows.blocks() {
+        let Parts {
+            position,
+            left,
+            right,
+        } = tables.node(node);
+        set_node(nodes, node, position, left, right);
     }
 }
 
-// Packs sound tables: 4 or 11 where they are not fit or not sound, and then nothing changes.
-pub fn pack(signatures: &[u64], old: &[u32], links: &mut [u32], nodes: &mut [u64]) -> u32
-    ensures { PackPromise signatures.now old.now links.old nodes.old result links.new nodes.new }
+// Packs sound tables: question 4, of the target's lengths too, then 11; a refusal changes nothing.
+pub fn pack(
+    signatures: &[u64],
+    old: &[u32],
+    links: &mut [u32],
+    nodes: &mut [u64],
+) -> Result<(), Refusal>
+    ensures { PackPromise signatures.now old.now links.old nodes.old (answer_of result) links.new nodes.new }
 {
-    let blocks = signatures.len();
-    if !tables::front::lengths_fit(blocks, links.len(), nodes.len()) {
-        return UNFIT;
+    if !front::lengths_fit(signatures.len(), links.len(), nodes.len()) {
+        return Err(Refusal::Unfit);
     }
-    let answer = audit::audit_unpacked(signatures, old);
-    if answer != 0 {
-        return answer;
-    }
-    let rows = links.len();
-    copy_rows(old, links, rows);
-    close_nodes(old, nodes, blocks);
-    0
+    let tables = Unpacked::of(signatures, old)?;
+    audit::sound(&tables)?;
+    links.copy_from_slice(&old[..links.len()]);
+    close_nodes(&tables, nodes);
+    Ok(())
 }

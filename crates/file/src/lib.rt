@@ -5,49 +5,22 @@ mod plan;
 mod question;
 mod store;
 
-ghost use Rattle.std.specs.Prelude.{◌≡◌, length};
-ghost use Rattle.model.specs.Packed.{unpacked, Packs};
-ghost use Rattle.model.specs.Questions.{asks_tables, file_refusal};
-ghost use Rattle.model.specs.Promises.{FilePromise};
+ghost use Rattle.answers.specs.Answers.{answer_of};
 ghost use Rattle.model.specs.PackedPromises.{PackedFile};
+ghost use Rattle.tables.specs.Changed.{SameLoans};
 
-// question 11's number
-const UNSOUND: u32 = 11;
+use answers::Refusal;
+use tables::TablesMut;
 
-// Files a block that no question refuses. All is read and checked before the first store, so 11 changes nothing.
-fn file_passed(
-    signatures: &mut [u64],
-    links: &mut [u32],
-    nodes: &mut [u64],
-    block: u32,
-    signature: u64,
-) -> u32
-    requires { Packs (length signatures.old) links.old nodes.old × (file_refusal (asks_tables signatures.old (unpacked links.old nodes.old)) block signature ≡ 0) }
-    ensures { FilePromise signatures.old (unpacked links.old nodes.old) block signature result signatures.new (unpacked links.new nodes.new) }
+// Files a block under a signature. All is read and checked before the first store, so 11 changes nothing.
+pub fn file(tables: &mut TablesMut, block: u32, signature: u64) -> Result<(), Refusal>
+    ensures promise { PackedFile tables.old.signatures.now tables.old.links.now tables.old.nodes.now block signature (answer_of result) tables.new.signatures.now tables.new.links.now tables.new.nodes.now }
+    ensures loans { SameLoans tables.old tables.new }
 {
-    let blocks = signatures.len();
-    let at = block as usize - 1;
-    let stores = plan::plan_filing(signatures, links, nodes, block, signature);
-    if !store::carry_out(links, nodes, blocks, block, stores) {
-        return UNSOUND;
-    }
-    signatures[at] = signature;
-    0
-}
-
-// Files a block under a signature.
-pub fn file(
-    signatures: &mut [u64],
-    links: &mut [u32],
-    nodes: &mut [u64],
-    block: u32,
-    signature: u64,
-) -> u32
-    ensures { PackedFile signatures.old links.old nodes.old block signature result signatures.new links.new nodes.new }
-{
-    let refusal = question::first_no(signatures, links, nodes, block, signature);
-    if refusal != 0 {
-        return refusal;
-    }
-    file_passed(signatures, links, nodes, block, signature)
+    let read = tables.read()?;
+    question::ask(&read, block, signature)?;
+    let plan = plan::plan_filing(&read, block, signature).ok_or(Refusal::Unsound)?;
+    store::carry_out(tables, block, plan);
+    tables.signatures[block as usize - 1] = signature;
+    Ok(())
 }

@@ -1,9 +1,21 @@
-// Lines: a report and its list of blocks as text. Each function puts bytes from a place on and answers the next place; a caller sees
-// to the room, so that no byte of a line is ever dropped.
+// Lines: a report and the blocks that a search lists as text. Each function puts bytes from a place on and answers the next place; a
+// caller sees to the room, so that no byte of a line is ever dropped.
+// A struct of the text and the place is no plainer: each contract would have to say, too, that it still holds the same slice.
 #![tactic(auto)]
 
-ghost use Rattle.std.specs.Prelude.{◌≡◌, [], ◌∷◌, ◌++◌, ◌+◌, ◌*◌, ◌≤◌, ◌<◌, length, take};
-ghost use Rattle.lines.specs.Text.{decimal, spaced, line_text, Puts};
+ghost use Rattle.std.specs.Prelude.{[], ◌∷◌, ◌+◌, ◌*◌, ◌≤◌, ◌<◌, length};
+ghost use Rattle.lines.specs.Text.{decimal, spaced, Puts};
+ghost use Rattle.lines.specs.Line.{text_of};
+
+use answers::Report;
+
+// The report of a slip of this kind, and the blocks that a search lists.
+#[derive(Clone, Copy, Debug, PartialEq, Eq)]
+pub struct Line<'a> {
+    pub kind: u8,
+    pub report: Report,
+    pub blocks: &'a [u32],
+}
 
 // One byte.
 fn push(text: &mut [u8], at: usize, byte: u8) -> usize
@@ -15,75 +27,50 @@ fn push(text: &mut [u8], at: usize, byte: u8) -> usize
 }
 
 // The digits of n.
+// Display stays out: a line always succeeds, and no clause of std says that `fmt` does where the text has room. Itoa takes a fifth longer.
+#[tactic(auto, using(crate::proofs::Laws::len_one, crate::proofs::Laws::len_more))]
 fn digits(text: &mut [u8], at: usize, n: u32) -> usize
     requires { at + length (decimal n) ≤ length text.old }
     ensures { Puts text.old at (decimal n) result text.new }
 {
     if n < 10 {
-        return push(text, at, 48 + n as u8);
+        return push(text, at, b'0' + n as u8);
     }
     let next = digits(text, at, n / 10);
-    push(text, next, 48 + (n % 10) as u8)
+    push(text, next, b'0' + (n % 10) as u8)
 }
 
-// A space and the digits of n.
-fn number(text: &mut [u8], at: usize, n: u32) -> usize
-    requires { at + 11 ≤ length text.old }
-    ensures { Puts text.old at (spaced (n ∷ [])) result text.new × (result ≤ at + 11) }
-{
-    let next = push(text, at, b' ');
-    digits(text, next, n)
-}
-
-// A space and the digits for each of the first `count` blocks.
-fn blocks(text: &mut [u8], at: usize, output: &[u32], count: usize) -> usize
-    requires { (count ≤ length output.now) × (at + 11 * count ≤ length text.old) }
-    ensures { Puts text.old at (spaced (take count output.now)) result text.new × (result ≤ at + 11 * count) }
+// A space and the digits for each number, in at most 11 bytes.
+#[tactic(auto, using(crate::proofs::Laws::decimal_few), unfolding(crate::specs::Text::spaced))]
+fn numbers(text: &mut [u8], at: usize, list: &[u32]) -> usize
+    requires { at + 11 * length list.now ≤ length text.old }
+    ensures puts { Puts text.old at (spaced list.now) result text.new }
+    ensures short { result ≤ at + 11 * length list.now }
 {
     let mut next = at;
-    let mut i = 0;
-    while i < count {
-        next = number(text, next, output[i]);
-        i += 1;
+    for n in list {
+        let begin = push(text, next, b' ');
+        next = digits(text, begin, *n);
     }
     next
 }
 
-// The numbers before the blocks: kind, answer, found, compares, bits read.
-fn report(
-    text: &mut [u8],
-    at: usize,
-    kind: u8,
-    answer: u32,
-    found: u32,
-    compares: u32,
-    bits: u32,
-) -> usize
-    requires { at + 47 ≤ length text.old }
-    ensures { Puts text.old at (decimal kind ++ spaced (answer ∷ found ∷ compares ∷ bits ∷ [])) result text.new × (result ≤ at + 47) }
-{
-    let first = digits(text, at, kind as u32);
-    let second = number(text, first, answer);
-    let third = number(text, second, found);
-    let fourth = number(text, third, compares);
-    number(text, fourth, bits)
-}
-
-// The line of a report and the first `found` words of the output. It takes at most 48 bytes and 11 for each block.
-pub fn line(
-    text: &mut [u8],
-    at: usize,
-    kind: u8,
-    answer: u32,
-    found: u32,
-    compares: u32,
-    bits: u32,
-    output: &[u32],
-) -> usize
-    requires { (found ≤ length output.now) × (at + 48 + 11 * found ≤ length text.old) }
-    ensures { Puts text.old at (line_text kind (answer ∷ found ∷ compares ∷ bits ∷ take found output.now)) result text.new × (result ≤ at + 48 + 11 * found) }
-{
-    let next = report(text, at, kind, answer, found, compares, bits);
-    let last = blocks(text, next, output, found as usize);
-    push(text, last, b'\n')
+impl Line<'_> {
+    // The line from place `at` on: the kind, the answer, the counts, the blocks. It takes at most 48 bytes and 11 for each block.
+    #[tactic(auto, using(crate::proofs::Laws::decimal_byte))]
+    pub fn put(&self, text: &mut [u8], at: usize) -> usize
+        requires { at + 48 + 11 * length self.now.blocks.now ≤ length text.old }
+        ensures puts { Puts text.old at (text_of self.now) result text.new }
+        ensures short { result ≤ at + 48 + 11 * length self.now.blocks.now }
+    {
+        let Report { answer, counts } = self.report;
+        let first = digits(text, at, u32::from(self.kind));
+        let counted = numbers(
+            text,
+            first,
+            &[answer, counts.found, counts.compares, counts.bits],
+        );
+        let listed = numbers(text, counted, self.blocks);
+        push(text, listed, b'\n')
+    }
 }

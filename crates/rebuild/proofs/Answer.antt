@@ -57,12 +57,13 @@ module _ (sigs links scratch : List ℕ) where
   pub is_sound : tables_fit (asks_tables sigs links) ≡ true → (answer : ℕ) → AuditPromise sigs links answer → answer ≡ 0 → Sound sigs links
   is_sound e answer A z = ⊎_elim (λ x. x.1) (λ x. let y = x.0 in absurd (omega arith)) (verdict e answer A)
 
-  is_unsound : fit ≡ true → (answer : ℕ) → AuditPromise sigs links answer → (answer ≡ 0 → ⊥) → Sound sigs links → ⊥
-  is_unsound e answer A z = ⊎_elim (λ x. absurd (z x.0)) (λ x. x.1) (verdict e answer A)
+  is_unsound : fit ≡ true → (answer : ℕ) → AuditPromise sigs links answer → answer ≢ 0 → (answer ≡ unsound) × (Sound sigs links → ⊥)
+  is_unsound e answer A z = ⊎_elim (λ x. absurd (z x.0)) (λ x. x) (verdict e answer A)
 
-  pub answers_unsound : tables_fit (asks_tables sigs links) ≡ true → length sigs ≤ length scratch → (answer : ℕ) → AuditPromise sigs links answer → (answer ≡ 0 → ⊥) → RebuildPromise sigs links scratch 11 links scratch
+  pub answers_unsound : tables_fit (asks_tables sigs links) ≡ true → length sigs ≤ length scratch → (answer : ℕ) → AuditPromise sigs links answer → answer ≢ 0 → RebuildPromise sigs links scratch answer links scratch
   answers_unsound e h answer A z =
-      record { refused = λ n. absurd (n (refusal_none e h)); asked = λ _. inr (is_unsound e answer A z, refl, refl, refl) }
+      let u = is_unsound e answer A z in
+      record { refused = λ n. absurd (n (refusal_none e h)); asked = λ _. inr (u.1, u.0, refl, refl) }
 
   pub answers_rebuilt : tables_fit (asks_tables sigs links) ≡ true → length sigs ≤ length scratch → Sound sigs links → (links' scratch' : List ℕ) → links' ≡ rebuild_links sigs links
       → length scratch' ≡ length scratch → drop (length sigs) scratch' ≡ drop (length sigs) scratch → RebuildPromise sigs links scratch 0 links' scratch'

@@ -5,7 +5,7 @@ use Prim.Native.Nat.{ℕ, zero, suc, ◌+◌, ◌-◌, ◌≤◌, max}
 use native.Mathlib.Omega.{arith}
 use mathlib.Core.Path.{◌≡◌, refl, sym, ◌∙◌, ap, ap₂, subst}
 use mathlib.Core.List.{List, [], ◌∷◌, ◌++◌, Memᴰ}
-use lib.ListN.{length, get_or, set, take, drop, length-set}
+use lib.ListN.{length, get_or, set, take, drop, length-set, length-append, length-drop}
 use lib.Seq.{sets, sets-eq, length-sets, length-take-le, take_at, drop_at, drop-drop, get_or-take}
 use Rattle.model.specs.Tables.{links_of, position_at, width_of, root_of}
 use Rattle.model.specs.Packed.{unpacked, Packs}
@@ -59,7 +59,7 @@ pub record Collected (sigs links l l1 : List ℕ) (d : ℕ) : Type 0 where
   pub count : d ≡ 0 + length (heads_of sigs links)
   pub list : l1 ≡ sets l 0 (heads_of sigs links)
 
-module _ (sigs links l l1 : List ℕ) (d : ℕ) (K : Collected sigs links l l1 d) where
+module _ {sigs links l l1 : List ℕ} {d : ℕ} (K : Collected sigs links l l1 d) where
   abbrev B : ℕ
   B = length sigs
 
@@ -107,7 +107,14 @@ module _ (sigs links l l1 : List ℕ) (d : ℕ) (K : Collected sigs links l l1 d
       ∙ ap (λ (n : ℕ). reference_to n (get_or heads 0 0) (B + 1)) count
       ∙ sym (reference_by B heads 1)
 
-  -- later words of the scratch are as they were
+  -- the scratch is as long, and its later words are as they were
+  pub as_long : (ys : List ℕ) → length ys ≡ length (take d l1) → length (ys ++ drop d l1) ≡ length l
+  as_long ys e =
+      let n = length-take-le d l1 fits in
+      let f = fits in
+      let m = long in
+      simp (length-append, length-drop) (omega arith)
+
   pub beyond : (ys : List ℕ) → length ys ≡ length (take d l1) → drop (length sigs) (ys ++ drop d l1) ≡ drop (length sigs) l
   beyond ys e =
       let r : drop d l1 ≡ drop d l = rw (K.list, count) (sets_rest l heads (omega (arith, G.few, K.room))) in
@@ -132,7 +139,7 @@ module _ (sigs links nodes : List ℕ) (P : Packs (length sigs) links nodes) whe
   abbrev U : List ℕ
   U = unpacked links nodes
 
-  width_read : width_of U ≡ width_of links
+  pub width_read : width_of (unpacked links nodes) ≡ width_of links
   width_read = front_word (length sigs) links nodes P 0 (omega arith)
 
   pub heads_read : heads_from (length sigs) (unpacked links nodes) (width_of links) (root_of links) ≡ heads_of sigs (unpacked links nodes)
@@ -150,11 +157,11 @@ module _ (sigs links nodes : List ℕ) (P : Packs (length sigs) links nodes) whe
   pub walk_read : Sound sigs (unpacked links nodes) → Walkable (length sigs) (unpacked links nodes) (width_of links) (root_of links)
   walk_read S = rw (← width_read, ← front_word (length sigs) links nodes P 2 (omega arith)) (sound_walk sigs U S)
 
-  module _ (l l1 : List ℕ) (d : ℕ) (K : Collected sigs (unpacked links nodes) l l1 d) where
+  module _ {l l1 : List ℕ} {d : ℕ} (K : Collected sigs (unpacked links nodes) l l1 d) where
     pub asks_packed : Group (width_of links) sigs (take d l1)
         × (((length sigs ≤ 65535) × (length nodes + 1 ≡ length sigs)) × ((1 ≤ 1) × (1 + length (take d l1) ≤ length sigs + 1)))
     asks_packed =
-        let a = build_asks sigs U l l1 d K 0 0 in
+        let a = build_asks K 0 0 in
         (subst (λ (F : ℕ). Group F sigs (take d l1)) width_read a.0, ((a.1.0.0, P.nodes_long), a.1.1))
 
     pub whole_packed : (first reference free : ℕ) (l₂ n₁ n₂ : List ℕ) → first ≡ max 1 d → reference ≡ reference_to d (get_or l1 0 0) (length sigs + 1) → free ≡ free_from (length sigs) first
@@ -166,5 +173,5 @@ module _ (sigs links nodes : List ℕ) (P : Packs (length sigs) links nodes) whe
         ap (λ (x : List ℕ). unpacked x nodes) el
         ∙ sym (row_store (set links 2 reference) nodes 3 free (simp length-set (omega (arith, P.rows_long))))
         ∙ ap (λ (x : List ℕ). set x 3 free) (sym (row_store links nodes 2 reference (omega (arith, P.rows_long)))) in
-        whole sigs U l l1 d K first reference free (unpacked l₂ n₁) (unpacked l₂ n₂) ef er ez
+        whole K first reference free (unpacked l₂ n₁) (unpacked l₂ n₂) ef er ez
         (e₁ ∙ ap₂ (λ (x : List ℕ) (F : ℕ). sets x (position_at (length sigs) 1) (group_nodes (length (take d l1)) F sigs (take d l1) 1)) a (sym width_read)) e₂

@@ -2,57 +2,38 @@
 #![tactic(auto)]
 
 mod collect;
-mod free;
 
-ghost use Rattle.std.specs.Prelude.{◌≡◌, ◌≤◌, length, drop};
-ghost use Rattle.model.specs.Sound.{Sound};
-ghost use Rattle.model.specs.Rebuild.{rebuild_links};
-ghost use Rattle.model.specs.Packed.{unpacked, Packs};
+ghost use Rattle.answers.specs.Answers.{answer_of};
 ghost use Rattle.model.specs.PackedPromises.{PackedRebuild};
 
-use tables::address;
-use tables::front::tables_fit;
+use answers::Refusal;
+use collect::collect;
+use split::Signed;
+use tables::{Tables, address, free};
 
-// question 4: the lengths, B, F and words 0 and 1 do not fit
-const UNFIT: u32 = 4;
-
-// question 9: the scratch is shorter than B
-const SHORT_SCRATCH: u32 = 9;
-
-// question 11: the tables are not sound
-const UNSOUND: u32 = 11;
-
-// Rebuilds sound tables. The first words of the scratch, one for each block, are free afterwards; later ones are unchanged.
-fn rebuild_sound(signatures: &[u64], links: &mut [u32], nodes: &mut [u64], scratch: &mut [u32])
-    requires sound { Sound signatures.now (unpacked links.old nodes.old) × Packs (length signatures.now) links.old nodes.old }
-    requires signatures_in_bounds { length signatures.now ≤ length scratch.old }
-    ensures tables { unpacked links.new nodes.new ≡ rebuild_links signatures.now (unpacked links.old nodes.old) }
-    ensures beyond { drop (length signatures.now) scratch.new ≡ drop (length signatures.now) scratch.old }
+// Makes the tree anew. Questions 4, 9 and 11 are asked in this order, and a refusal changes nothing. The first words of the scratch, one
+// for each block, are free afterwards; later ones are unchanged. The slices come one by one: the face of C lends the signatures to be read
+// only.
+pub fn rebuild(
+    signatures: &[u64],
+    links: &mut [u32],
+    nodes: &mut [u64],
+    scratch: &mut [u32],
+) -> Result<(), Refusal>
+    ensures { PackedRebuild signatures.now links.old nodes.old scratch.old (answer_of result) links.new nodes.new scratch.new }
 {
-    let blocks = signatures.len();
-    let width = links[address::WIDTH];
-    let root = links[address::ROOT];
-    let heads = collect::collect(links, nodes, scratch, blocks, root, width, 0);
-    let first = free::after_tree(heads);
-    links[address::ROOT] = split::reference(heads, scratch[0], blocks + 1);
-    links[address::FREE] = tables::free::free_from(blocks, first);
-    split::build(signatures, nodes, &mut scratch[..heads], width, 1);
-    tables::free::free_rest(nodes, blocks, first);
-}
-
-// Makes the tree anew: 0, or the number of the first question whose answer is no, and then nothing changes.
-pub fn rebuild(signatures: &[u64], links: &mut [u32], nodes: &mut [u64], scratch: &mut [u32]) -> u32
-    ensures { PackedRebuild signatures.now links.old nodes.old scratch.old result links.new nodes.new scratch.new }
-{
-    if !tables_fit(signatures, links, nodes) {
-        return UNFIT;
-    }
+    let tables = Tables::of(signatures, links, nodes)?;
     if scratch.len() < signatures.len() {
-        return SHORT_SCRATCH;
+        return Err(Refusal::ShortScratch);
     }
-    if audit::audit(signatures, links, nodes) == 0 {
-        rebuild_sound(signatures, links, nodes, scratch);
-        return 0;
-    }
-    UNSOUND
+    audit::sound(&tables)?;
+    let blocks = signatures.len();
+    let width = tables.rows.width();
+    let heads = collect(&tables, scratch, tables.rows.root(), width, 0);
+    let first = heads.max(1);
+    links[address::ROOT] = split::reference(heads, scratch[0], blocks + 1);
+    links[address::FREE] = free::free_from(blocks, first);
+    Signed { signatures, width }.build(nodes, &mut scratch[..heads], 1);
+    free::free_rest(nodes, blocks, first);
+    Ok(())
 }

@@ -1,3 +1,3 @@
-pub mod Moved
 pub mod Turns
 pub mod Right
+pub mod Same

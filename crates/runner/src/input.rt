@@ -8,10 +8,7 @@ pub fn fill<R: Read>(reader: &mut R, bytes: &mut [u8], kept: usize) -> usize
     requires { kept ≤ length bytes.old }
     ensures { (kept ≤ result) × (result ≤ length bytes.old) }
 {
-    match reader.read(&mut bytes[kept..]) {
-        Ok(n) => kept + n,
-        Err(_) => kept,
-    }
+    kept + reader.read(&mut bytes[kept..]).unwrap_or(0)
 }
 
 // Moves the bytes from `from` to `end` to the front, and answers how many they are.
@@ -19,10 +16,6 @@ pub fn shift(bytes: &mut [u8], from: usize, end: usize) -> usize
     requires { (from ≤ end) × (end ≤ length bytes.old) }
     ensures { (result ≡ end - from) × (take result bytes.new ≡ take result (drop from bytes.old)) }
 {
-    let mut i = 0;
-    while i < end - from {
-        bytes[i] = bytes[from + i];
-        i += 1;
-    }
+    bytes.copy_within(from..end, 0);
     end - from
 }

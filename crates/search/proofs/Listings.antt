@@ -2,16 +2,16 @@
 -- the invariant of the two loops over blocks.
 -- Assumes nothing.
 use Prim.Native.Nat.{ℕ, zero, suc, ◌+◌, ◌-◌, ◌≤◌, ◌<◌}
-use native.Mathlib.Decide.{ℕ_discrete}
 use native.Mathlib.Numerals.{add-one}
 use native.Mathlib.Omega.{arith}
 use mathlib.Core.Path.{◌≡◌, refl, sym, ◌∙◌, ap, ap₂}
 use mathlib.Core.Bool.{true, false}
 use mathlib.Core.List.{List, [], ◌∷◌, ◌++◌, append-nil, append_assoc}
 use lib.Bits.{bit_or, or_add_and, and_le_l, and_le_r}
-use lib.ListN.{length, get_or, set, take, drop, length-append, length-set, take-append-drop}
-use lib.Seq.{get_or-take, get_or-drop, take-set-le, take-suc-set, drop-set-lt}
+use lib.ListN.{length, get_or, set, take, drop, length-drop, length-append, length-set, take-append-drop}
+use lib.Seq.{get_or-take, get_or-drop, length-take-le, take-set-le, take-suc-set, drop-set-lt}
 use borrow.Author.Tests.{ne_eqb}
+use Rattle.std.specs.List.{fold}
 use Rattle.model.specs.Basics.{pick}
 use Rattle.model.specs.Promises.{output_after}
 use Rattle.search.specs.Marks.{is_marked, listed, Lists, ListedPart}
@@ -102,15 +102,15 @@ module _ (m : List ℕ) where
     passed_none to le = record { low = omega arith; high = le; few = omega arith; part = part_none }
 
     -- the loop's next block, by whether it is marked
-    module _ (to b n : ℕ) (out : List ℕ) (P : Passed to b n out) (next : b < to) (lt : n < found) (fit : found ≤ length out₀) where
+    module _ (to b n : ℕ) (out : List ℕ) (P : Passed to b n out) (next : b < to) (lt : n < found) (fit : found ≤ length out₀) (n' : ℕ) where
       word_fits : n < length out
       word_fits = omega arith
 
-      pub pass_yes : is_marked m (b + 1) ≡ true → Passed to (b + 1) (n + 1) (set out n (b + 1))
-      pass_yes e = record { low = omega arith; high = omega arith; few = omega arith; part = part_yes b n out P.part lt word_fits e }
+      pub pass_yes : is_marked m (b + 1) ≡ true → n' ≡ n + 1 → Passed to (b + 1) n' (set out n (b + 1))
+      pass_yes e d = rw d (record { low = omega arith; high = omega arith; few = omega arith; part = part_yes b n out P.part lt word_fits e })
 
-      pub pass_no : is_marked m (b + 1) ≡ false → Passed to (b + 1) n (set out n (b + 1))
-      pass_no e = record { low = omega arith; high = omega arith; few = omega arith; part = part_no b n out P.part lt word_fits e }
+      pub pass_no : is_marked m (b + 1) ≡ false → n' ≡ n → Passed to (b + 1) n' (set out n (b + 1))
+      pass_no e d = rw d (record { low = omega arith; high = omega arith; few = omega arith; part = part_no b n out P.part lt word_fits e })
 
     -- all are listed
     pub part_full : (b to n : ℕ) (out : List ℕ) → ListedPart m found from n₀ out₀ b n out → b ≤ to → found ≤ n → ListedPart m found from n₀ out₀ to n out
@@ -144,17 +144,23 @@ module _ (m : List ℕ) where
       let d : r ≡ found = l.count ∙ sym f in
       sym (take-append-drop found out') ∙ ap₂ (λ (x y : List ℕ). x ++ y) (rw d at l.front) (L.beyond ∙ ap (λ (k : ℕ). drop k out) f)
 
--- one mark more in an OR over a part of the marks
-pub none_more : (run part : List ℕ) → run ≡ part → (any i : ℕ) → (any ≡ 0 → (j : ℕ) → j < i → get_or part j 0 ≡ 0) → bit_or any (get_or run i 0) ≡ 0 → (j : ℕ) → j < i + 1 → get_or part j 0 ≡ 0
-none_more run part e any i h o j l = go (ℕ_discrete j i)
+-- where the OR of all is 0, so is each
+fold_zero : (xs : List ℕ) (n : ℕ) → fold bit_or n xs ≡ 0 → (n ≡ 0) × ((j : ℕ) → j < length xs → get_or xs j 0 ≡ 0)
+fold_zero [] n e = (e, λ j h. absurd (omega arith))
+fold_zero (x ∷ xs) n e =
+    let r = fold_zero xs (bit_or n x) e in
+    let z = or_none n x r.0 in
+    (z.0, at z.1 r.1)
   where
-    go : Dec (j ≡ i) → get_or part j 0 ≡ 0
-    go (yes d) = rw (d, ← e) (or_none any (get_or run i 0) o).1
-    go (no d) = h (or_none any (get_or run i 0) o).0 j (omega arith)
+    at : x ≡ 0 → ((j : ℕ) → j < length xs → get_or xs j 0 ≡ 0) → (j : ℕ) → j < length (x ∷ xs) → get_or (x ∷ xs) j 0 ≡ 0
+    at z r zero h = z
+    at z r (suc j) h = r j (omega arith)
 
 -- marks of 0 in a part of the marks
-pub run_none : (m : List ℕ) (from n : ℕ) → ((j : ℕ) → j < n → get_or (take n (drop from m)) j 0 ≡ 0) → (i : ℕ) → i < n → is_marked m (from + i + 1) ≡ false
-run_none m from n h i l =
+pub run_none : (m : List ℕ) (from n : ℕ) → from + n ≤ length m → fold bit_or 0 (take n (drop from m)) ≡ 0 → (i : ℕ) → i < n → is_marked m (from + i + 1) ≡ false
+run_none m from n long z i l =
     let d : from + i + 1 - 1 ≡ from + i = omega arith in
-    let e : get_or m (from + i) 0 ≡ 0 = sym (get_or-drop from m i 0) ∙ sym (get_or-take n (drop from m) i 0 l) ∙ h i l in
+    let whole : n ≤ length (drop from m) = omega (arith, length-drop from m) in
+    let part = (fold_zero (take n (drop from m)) 0 z).1 i (omega (arith, length-take-le n (drop from m) whole)) in
+    let e : get_or m (from + i) 0 ≡ 0 = sym (get_or-drop from m i 0) ∙ sym (get_or-take n (drop from m) i 0 l) ∙ part in
     rw d (ne_eqb (get_or m (from + i) 0) 1 (omega arith))

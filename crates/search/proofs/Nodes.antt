@@ -14,12 +14,13 @@ use Rattle.model.specs.Basics.{pick}
 use Rattle.model.specs.Tables.{width_of}
 use Rattle.model.specs.Packed.{position_in, left_in, right_in, unpacked, Packs}
 use Rattle.model.proofs.Packing.{front_word, node_position, node_left, node_right}
+use Rattle.tables.specs.Fits.{FitsPacked}
 use Rattle.search.specs.Budget.{Budget, unfit, node_less, fork_less, Forking}
-use Rattle.search.specs.Search.{SizedPacked, leaf_twin, side_at, index_of, is_leaf, right_first, in_turn, node_twin, word_at, walk_twin, word_twin}
+use Rattle.search.specs.Search.{leaf_twin, side_at, index_of, is_leaf, right_first, in_turn, node_twin, word_at, walk_twin, word_twin}
 use Rattle.search.proofs.Steps.{leaf_none, walk_leaf, walk_none, node_spent, node_right as goes_right, node_both}
 use Rattle.search.proofs.Leaves.{leaf_block, no_leaf}
 use Rattle.search.proofs.Rows.{leaf_row}
-use Rattle.search.proofs.Returns.{still_sized, still_forking}
+use Rattle.search.proofs.Returns.{still_room, still_forking}
 
 -- the word that is read for a reference r that is no leaf, by the index i of its node
 module _ (B : ℕ) (nodes : List ℕ) (r : ℕ) (none : is_leaf B r ≡ false) (long : (length nodes + 1 ≡ B) × (B ≤ 65535)) (i : ℕ) (e : i ≡ index_of r) where
@@ -125,22 +126,20 @@ unfolding word_twin
 word_spent sigs links q w l m zero e = refl
 word_spent sigs links q w l m (suc u) e = sym (node_spent (walk_twin u sigs links q) (width_of links) (length sigs) q (position_in w) (left_in w) (right_in w) l m e)
 
--- the query's side, with the width as it was handed on
-pub side_read : (F F' q w : ℕ) (r t : Bool) → F ≡ F' → r ≡ eqb (side_at F q (position_in w)) 1 → r ≡ t → eqb (side_at F' q (position_in w)) 1 ≡ t
-side_read F F' q w r t e h d = rw (← e) (sym h ∙ d)
-
 -- Where a walk stands before it visits the sides x and y of a node: u positions are untested and l is left.
 pub record AtNode (sigs links nodes : List ℕ) (q w u : ℕ) (l : Budget) (m : List ℕ) (x y : ℕ) : Type 0 where
-  pub sized : SizedPacked sigs links nodes m q
+  pub packs : Packs (length sigs) links nodes
+  pub few : length sigs ≤ 65535
+  pub room : length sigs ≤ length m
   pub untested : u ≡ 0 → ⊥
   pub some : l.nodes ≡ 0 → ⊥
   pub forking : Forking l
   pub left : x ≡ left_in w
   pub right : y ≡ right_in w
 
-pub at_node : {sigs links nodes : List ℕ} {q w u : ℕ} {l : Budget} {m : List ℕ} {x y : ℕ} → SizedPacked sigs links nodes m q → (u ≡ 0 → ⊥) → (l.nodes ≡ 0 → ⊥) → Forking l → x ≡ left_in w → y ≡ right_in w
+pub at_node : {sigs links nodes : List ℕ} {q w u : ℕ} {l : Budget} {m : List ℕ} {x y : ℕ} → FitsPacked sigs links nodes → length sigs ≤ length m → (u ≡ 0 → ⊥) → (l.nodes ≡ 0 → ⊥) → Forking l → x ≡ left_in w → y ≡ right_in w
     → AtNode sigs links nodes q w u l m x y
-at_node s u n f x y = record { sized = s; untested = u; some = n; forking = f; left = x; right = y }
+at_node t s u n f x y = record { packs = t.packs; few = t.fits.blocks_to; room = s; untested = u; some = n; forking = f; left = x; right = y }
 
 module _ {sigs links nodes : List ℕ} {q w u : ℕ} {l : Budget} {m : List ℕ} {x y : ℕ} (A : AtNode sigs links nodes q w u l m x y) where
   -- what a side does
@@ -148,7 +147,7 @@ module _ {sigs links nodes : List ℕ} {q w u : ℕ} {l : Budget} {m : List ℕ}
   gives r p = walk_twin (u - 1) sigs (unpacked links nodes) q r p.0 p.1
 
   at_word : word_twin u sigs (unpacked links nodes) q w l m ≡ node_twin (walk_twin (u - 1) sigs (unpacked links nodes) q) (width_of links) (length sigs) q (position_in w) x y l m
-  at_word = word_node sigs links nodes A.sized.packs q l m w u A.untested ∙ rw (width_is sigs links nodes A.sized.packs q l m, A.left, A.right)
+  at_word = word_node sigs links nodes A.packs q l m w u A.untested ∙ rw (width_is sigs links nodes A.packs q l m, A.left, A.right)
 
   -- the right side alone; both, where the left one is a leaf, where none is, and where the right one alone is
   pub right_alone : eqb (side_at (width_of links) q (position_in w)) 1 ≡ true → (l' : Budget) → l' ≡ node_less l → (o : Budget × List ℕ) → o ≡ gives y (l', m)
@@ -177,18 +176,18 @@ module _ {sigs links nodes : List ℕ} {q w u : ℕ} {l : Budget} {m : List ℕ}
   -- a side that is a leaf, and one that is a node
   pub leaf_gives : (r : ℕ) → is_leaf (length sigs) r ≡ true → (p : Budget × List ℕ) → leaf_twin sigs links q r p.0 p.1 ≡ gives r p
   leaf_gives r h p =
-      let k = leaf_block (length sigs) r A.sized.sized.few h in
-      sym (leaf_row sigs links nodes A.sized.packs q r p.0 p.1) ∙ sym (walk_leaf sigs (unpacked links nodes) q r p.0 p.1 (u - 1) k.1)
+      let k = leaf_block (length sigs) r A.few h in
+      sym (leaf_row sigs links nodes A.packs q r p.0 p.1) ∙ sym (walk_leaf sigs (unpacked links nodes) q r p.0 p.1 (u - 1) k.1)
 
   pub node_gives : (r v : ℕ) → is_leaf (length sigs) r ≡ false → v ≡ word_at (length sigs) nodes r → (p : Budget × List ℕ) → word_twin (u - 1) sigs (unpacked links nodes) q v p.0 p.1 ≡ gives r p
-  node_gives r v h d p = sym (walk_at sigs links nodes A.sized.packs q p.0 p.1 r v (u - 1) h d)
+  node_gives r v h d p = sym (walk_at sigs links nodes A.packs q p.0 p.1 r v (u - 1) h d)
 
   -- what stands after a side
-  pub sized_after : (r : ℕ) (l' a : Budget) (m₁ : List ℕ) → (a, m₁) ≡ gives r (l', m) → SizedPacked sigs links nodes m₁ q
-  sized_after r l' a m₁ e = still_sized sigs links nodes q (u - 1) r l' a m m₁ A.sized e
+  pub room_after : (r : ℕ) (l' a : Budget) (m₁ : List ℕ) → (a, m₁) ≡ gives r (l', m) → length sigs ≤ length m₁
+  room_after r l' a m₁ e = still_room sigs links nodes q (u - 1) r l' a m m₁ A.room e
 
   pub forking_after : (r : ℕ) (l' a : Budget) (m₁ : List ℕ) → Forking l' → (a, m₁) ≡ gives r (l', m) → Forking a
-  forking_after r l' a m₁ h e = still_forking sigs links nodes q (u - 1) r l' a m m₁ A.sized h e
+  forking_after r l' a m₁ h e = still_forking sigs links nodes q (u - 1) r l' a m m₁ A.room e h
 
   -- and below the node
   pub node_below : (l' : Budget) → l' ≡ node_less l → Forking l'

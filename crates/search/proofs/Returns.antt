@@ -1,14 +1,17 @@
 -- What each return of the code gives, from what its tests and calls said: a law to a return, over the laws of one step.
 -- Assumes nothing.
 use Prim.Native.Nat.{ℕ, ◌+◌, ◌-◌, ◌^◌, ◌≤◌, ◌<◌}
+use native.Mathlib.Decide.{dec_lt}
 use native.Mathlib.Omega.{arith}
-use mathlib.Core.Path.{◌≡◌, sym, ◌∙◌, ap, ap₂, subst}
-use mathlib.Core.Bool.{Bool, true, false}
+use mathlib.Core.Path.{◌≡◌, refl, sym, ◌∙◌, ap, ap₂, subst}
+use mathlib.Core.Bool.{Bool, true, false, not, ◌&&◌}
 use mathlib.Core.List.{List, []}
 use lib.Bits.{bit_and}
-use lib.Dec.{eqb}
+use lib.Dec.{eqb, leb, ltb}
 use lib.ListN.{length, length-set}
-use borrow.Author.Tests.{eq-eqb, ne_eqb, le-ltb}
+use borrow.Author.Tests.{eq-eqb, ne_eqb, le-leb, lt-leb, lt-ltb, le-ltb}
+use Rattle.model.specs.Basics.{pick}
+use Rattle.model.proofs.Picks.{no_bool}
 use Rattle.model.specs.Signature.{coversb}
 use Rattle.model.specs.Tables.{width_of, root_of, next_of, filed_of, signature_of}
 use Rattle.model.specs.Ledger.{Report, bare}
@@ -18,14 +21,55 @@ use Rattle.model.specs.Packed.{unpacked, Packs}
 use Rattle.model.proofs.Packing.{front_word}
 use Rattle.search.specs.Budget.{Budget, unfit, lent, Forking}
 use Rattle.search.specs.Marks.{is_marked, mark, listed, cleared}
-use Rattle.search.specs.Search.{SizedPacked, may_mark, chain_twin, walk_twin, found_twin}
+use Rattle.search.specs.Search.{may_mark, chain_twin, walk_twin, found_twin}
 use Rattle.search.proofs.Steps.{chain_stop, chain_mark, found_empty, found_unfit, found_list}
 use Rattle.search.proofs.Marks.{Went, walk_went}
-use Rattle.search.proofs.Any.{walk_from_cleared, grown_found}
+use Rattle.search.proofs.Any.{walk_from_cleared, grown_long, grown_found}
 
 -- the AND of a signature, as it was read, and the query
 pub covers_read : (F s s' q : ℕ) (r : Bool) → q < 2 ^ F → r ≡ eqb (bit_and s q) q → s ≡ s' → r ≡ coversb F s' q
 covers_read F s s' q r low e d = e ∙ and_test F s q low ∙ ap (λ (x : ℕ). coversb F x q) d
+
+-- tests joined by `and`, of which the last counts where those before it hold
+pub and_yes : (v u p t : Bool) → u ≡ true → v ≡ t → u ≡ p → v ≡ (p && t)
+and_yes v u p t e f g = f ∙ rw (sym g ∙ e)
+
+pub and_no : (v u p t : Bool) → u ≡ false → v ≡ u → u ≡ p → v ≡ (p && t)
+and_no v u p t e f g = f ∙ e ∙ rw (sym g ∙ e)
+
+-- the tests of a block before its signature is read
+abbrev pub may_before : List ℕ → List ℕ → ℕ → List ℕ → Bool
+may_before sigs links b m = ((not (eqb b 0) && leb b (length sigs)) && not (eqb (filed_of links b) 0)) && not (is_marked m b)
+
+within : (b n : ℕ) → leb b n ≡ not (ltb n b)
+within b n = go (dec_lt n b)
+  where
+    go : Dec (n < b) → leb b n ≡ not (ltb n b)
+    go (yes h) = rw (lt-leb b n h, lt-ltb n b h)
+    go (no h) = let k : b ≤ n = omega arith in rw (le-leb b n k, le-ltb n b k)
+
+picks_yes : (z t f k v : Bool) → ((not z && not t) && not f) && not k ≡ true → v ≡ pick z false (pick t false (pick f false (pick k false v)))
+picks_yes true t f k v e = no_bool e
+picks_yes false true f k v e = no_bool e
+picks_yes false false true k v e = no_bool e
+picks_yes false false false true v e = no_bool e
+picks_yes false false false false v e = refl
+
+picks_no : (z t f k v : Bool) → ((not z && not t) && not f) && not k ≡ false → false ≡ pick z false (pick t false (pick f false (pick k false v)))
+picks_no true t f k v e = refl
+picks_no false true f k v e = refl
+picks_no false false true k v e = refl
+picks_no false false false true v e = refl
+picks_no false false false false v e = no_bool (sym e)
+
+module _ (sigs links : List ℕ) (q b : ℕ) (m : List ℕ) where
+  pub may_yes : may_before sigs links b m ≡ true → coversb (width_of links) (signature_of sigs b) q ≡ may_mark sigs links q b m
+  unfolding may_mark
+  may_yes e = picks_yes (eqb b 0) (ltb (length sigs) b) (eqb (filed_of links b) 0) (is_marked m b) _ (rw (within b (length sigs)) at e)
+
+  pub may_no : may_before sigs links b m ≡ false → false ≡ may_mark sigs links q b m
+  unfolding may_mark
+  may_no e = picks_no (eqb b 0) (ltb (length sigs) b) (eqb (filed_of links b) 0) (is_marked m b) _ (rw (within b (length sigs)) at e)
 
 -- marking a block keeps the marks' length
 pub marked_long : (m m' : List ℕ) (b : ℕ) → m' ≡ mark m b → length m' ≡ length m
@@ -57,20 +101,19 @@ module _ (sigs links : List ℕ) (q n f k b : ℕ) (m : List ℕ) (from : 1 ≤ 
     head_goes e v h l' el b' eb m' em = chain_goes sigs links q n f k b m l' el b' eb m' em head h (simp (ne_eqb b 0 head, le-ltb _ _ to, ne_eqb _ _ filed, e, v))
 
 -- marks that come back as they were handed on
-pub marks_back : (l : Budget) (m m' : List ℕ) (o : Budget × List ℕ) → m' ≡ m → (l, m) ≡ o → (l, m') ≡ o
-marks_back l m m' o e d = rw e d
+pub marks_back : (o : Report) (m m' out : List ℕ) (x : Report × List ℕ × List ℕ) → m' ≡ m → (o, m, out) ≡ x → (o, m', out) ≡ x
+marks_back o m m' out x e d = rw e d
 
--- a walk keeps the marks' length, so what stood beside them fits them still
-pub still_sized : (sigs links nodes : List ℕ) (q u r : ℕ) (l l' : Budget) (m m' : List ℕ) → SizedPacked sigs links nodes m q → (l', m') ≡ walk_twin u sigs (unpacked links nodes) q r l m → SizedPacked sigs links nodes m' q
-still_sized sigs links nodes q u r l l' m m' p e =
-    let s = p.sized in
-    let as_long : length m' ≡ length m = ap (λ (o : Budget × List ℕ). length o.1) e ∙ (walk_went sigs (unpacked links nodes) q u r l m s.room).grown.long in
-    record { sized = record { few = s.few; long = s.long; room = omega (arith, s.room); wide = s.wide; low = s.low }; packs = p.packs }
+-- a walk keeps the marks' length
+module _ (sigs links nodes : List ℕ) (q u r : ℕ) (l l' : Budget) (m m' : List ℕ) (p : length sigs ≤ length m) (e : ◌≡◌ {A = Budget × List ℕ} (l', m') (walk_twin u sigs (unpacked links nodes) q r l m)) where
+  pub still_room : length sigs ≤ length m'
+  still_room =
+      let as_long : length m' ≡ length m = ap (λ (o : Budget × List ℕ). length o.1) e ∙ (walk_went sigs (unpacked links nodes) q u r l m p).grown.long in
+      omega arith
 
--- and leaves a fork for every node
-pub still_forking : (sigs links nodes : List ℕ) (q u r : ℕ) (l l' : Budget) (m m' : List ℕ) → SizedPacked sigs links nodes m q → Forking l → (l', m') ≡ walk_twin u sigs (unpacked links nodes) q r l m → Forking l'
-still_forking sigs links nodes q u r l l' m m' p h e =
-    subst Forking (sym (ap (λ (o : Budget × List ℕ). o.0) e)) ((walk_went sigs (unpacked links nodes) q u r l m p.sized.room).forking h)
+  -- and leaves a fork for every node
+  pub still_forking : Forking l → Forking l'
+  still_forking h = subst Forking (sym (ap (λ (o : Budget × List ℕ). o.0) e)) ((walk_went sigs (unpacked links nodes) q u r l m p).forking h)
 
 -- the width and the root as the code reads them
 pub walked_rows : (sigs links nodes : List ℕ) → Packs (length sigs) links nodes → (q : ℕ) (l : Budget) (z : List ℕ) (o : Budget × List ℕ)
@@ -109,10 +152,10 @@ module _ (sigs links : List ℕ) (q : ℕ) (m z : List ℕ) (c : z ≡ cleared (
   pub walk_few : (w.nodes ≤ length sigs - 1) × (w.forks ≤ length sigs)
   walk_few = (went.few_nodes, went.few_forks)
 
-  pub walk_found : (w.forks ≡ 0 → ⊥) → (w.blocks ≤ length sigs) × (length sigs - w.blocks ≡ length (listed (length sigs) m₁))
+  pub walk_found : (w.forks ≡ 0 → ⊥) → (w.blocks ≤ length sigs) × (length sigs ≤ length m₁) × (length sigs - w.blocks ≡ length (listed (length sigs) m₁))
   walk_found f =
       let s = went.spent (omega arith) in
-      (omega arith, rw (grown_found sigs links q m [] le m₁ went.many went.grown) (omega arith))
+      (omega arith, omega (arith, grown_long sigs links q m [] le m₁ went.many went.grown), rw (grown_found sigs links q m [] le m₁ went.many went.grown) (omega arith))
 
 -- what is used of B where x, read as y, is left
 pub used_read : (B x y r : ℕ) → r ≡ B - x → x ≡ y → r ≡ B - y

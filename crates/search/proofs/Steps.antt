@@ -1,9 +1,8 @@
 -- The walk's definitions one step at a time, as the code takes them: each law is one way through a chain, a leaf or a node.
 -- Assumes nothing.
-use Prim.Native.Nat.{ℕ, zero, suc, ◌+◌, ◌-◌, ◌*◌, ◌/◌, ◌%◌, ◌≤◌, ◌<◌}
-use native.Mathlib.Nat.{div-div-eq-div-mul}
+use Prim.Native.Nat.{ℕ, zero, suc, ◌-◌, ◌≤◌, ◌<◌}
 use native.Mathlib.Omega.{arith}
-use mathlib.Core.Path.{◌≡◌, refl, sym, ◌∙◌, ap}
+use mathlib.Core.Path.{◌≡◌, refl}
 use mathlib.Core.Bool.{true, false}
 use mathlib.Core.List.{List}
 use lib.Dec.{eqb}
@@ -14,46 +13,9 @@ use Rattle.model.specs.Signature.{coversb}
 use Rattle.model.specs.Tables.{width_of, root_of, next_of, position_of, left_of, right_of, signature_of}
 use Rattle.model.specs.Ledger.{bare}
 use Rattle.model.specs.Promises.{unsound}
-use Rattle.search.specs.Budget.{Budget, unfit, lent, node_less, fork_less, budget_of}
+use Rattle.search.specs.Budget.{Budget, unfit, lent, node_less, fork_less}
 use Rattle.search.specs.Marks.{mark, cleared}
 use Rattle.search.specs.Search.{may_mark, chain_twin, leaf_twin, side_at, right_first, in_turn, node_twin, walk_twin, list_twin, found_twin}
-
--- quotient and remainder, from what they are to be
-by_forks : (x d n : ℕ) → x ≡ n + 4294967296 * d → n < 4294967296 → (x / 4294967296 ≡ d) × (x % 4294967296 ≡ n)
-by_forks x d n e h =
-    let a : x / 4294967296 ≡ d = omega arith in
-    (a, omega arith)
-
-by_blocks : (x d n : ℕ) → x ≡ n + 65536 * d → n < 65536 → (x / 65536 ≡ d) × (x % 65536 ≡ n)
-by_blocks x d n e h =
-    let a : x / 65536 ≡ d = omega arith in
-    (a, omega arith)
-
--- a number made of three counts has them
-budget_is : (x n f k : ℕ) → x ≡ n + 4294967296 * (f + 65536 * k) → n < 4294967296 → f < 65536 → budget_of x ≡ record { nodes = n; forks = f; blocks = k }
-budget_is x n f k e hn hf =
-    let p = by_forks x (f + 65536 * k) n e hn in
-    let r = by_blocks (f + 65536 * k) k f refl hf in
-    let b : x / 281474976710656 ≡ k = sym (div-div-eq-div-mul x 4294967296 65536) ∙ ap (λ (y : ℕ). y / 65536) p.0 ∙ r.0 in
-    rw (p.1, p.0, r.1, b)
-
--- and every number is made so
-is_budget : (x : ℕ) → x ≡ x % 4294967296 + 4294967296 * (x / 4294967296 % 65536 + 65536 * (x / 281474976710656))
-is_budget x = let b : x / 4294967296 / 65536 ≡ x / 281474976710656 = div-div-eq-div-mul x 4294967296 65536 in omega arith
-
--- a budget with one node, one fork or one block less
-pub less_node : (s : ℕ) → 0 < s % 4294967296 → budget_of (s - 1) ≡ node_less (budget_of s)
-less_node s h = budget_is (s - 1) (s % 4294967296 - 1) (s / 4294967296 % 65536) (s / 281474976710656) (omega (arith, is_budget s)) (omega arith) (omega arith)
-
-pub less_fork : (s : ℕ) → 0 < s % 4294967296 → 0 < s / 4294967296 % 65536 → budget_of (s - 4294967297) ≡ fork_less (budget_of s)
-less_fork s h g = budget_is (s - 4294967297) (s % 4294967296 - 1) (s / 4294967296 % 65536 - 1) (s / 281474976710656) (omega (arith, is_budget s)) (omega arith) (omega arith)
-
-pub less_block : (s : ℕ) → 0 < s / 281474976710656 → budget_of (s - 281474976710656) ≡ record { nodes = s % 4294967296; forks = s / 4294967296 % 65536; blocks = s / 281474976710656 - 1 }
-less_block s h = budget_is (s - 281474976710656) (s % 4294967296) (s / 4294967296 % 65536) (s / 281474976710656 - 1) (omega (arith, is_budget s)) (omega arith) (omega arith)
-
--- what B blocks are lent, as one number
-pub lent_is : (B : ℕ) → 1 ≤ B → B < 65536 → budget_of (B * 281479271677953 - 1) ≡ lent B
-lent_is B low h = budget_is (B * 281479271677953 - 1) (B - 1) B B (omega arith) (omega arith) h
 
 module _ (sigs links : List ℕ) (q n f : ℕ) (b : ℕ) (m : List ℕ) where
   pub chain_end : (k : ℕ) → b ≡ 0 → chain_twin sigs links q n f k b m ≡ (record { nodes = n; forks = f; blocks = k }, m)

@@ -1,7 +1,12 @@
 -- The marks of blocks, and the list of the marked ones, as it grows at the front of an output.
 -- Assumes nothing.
 use Rattle.std.specs.Prelude.{ℕ, ◌-◌, ◌≤◌, ◌≡◌, Bool, List, ◌++◌, eqb, length, get_or, set, take, drop, replicate}
+use Rattle.std.specs.Borrow.{MutBor}
 use Rattle.model.specs.Basics.{keep, up_from}
+
+-- two references are one loan: what was lent behind the one comes back from behind the other
+abbrev pub SameLoan : {X : Type 0} → MutBor X → MutBor X → Type 0
+SameLoan a b = a.ghost_name ≡ b.ghost_name
 
 -- is block b marked?
 abbrev pub is_marked : List ℕ → ℕ → Bool

@@ -1,38 +1,15 @@
 -- The walk of a search as a function of the tables' lists, and what it leaves: what the code does on any tables, step for step.
 -- A search is lent as many nodes, forks and blocks as sound tables can need. It counts them down, and stops where they run out.
 -- Assumes nothing.
-use Rattle.std.specs.Prelude.{ℕ, zero, suc, ◌+◌, ◌-◌, ◌/◌, ◌%◌, ◌^◌, ◌≤◌, ◌<◌, ◌≡◌, Bool, true, false, List, [], eqb, leb, ltb, length, get_or}
-use Rattle.std.specs.Borrow.{Bor, MutBor}
+use Rattle.std.specs.Prelude.{ℕ, zero, suc, ◌+◌, ◌-◌, ◌/◌, ◌%◌, ◌^◌, Bool, true, false, List, eqb, leb, ltb, length, get_or}
 use Rattle.model.specs.Basics.{pick}
-use Rattle.model.specs.Limits.{widest, most_blocks}
 use Rattle.model.specs.Signature.{coversb}
-use Rattle.model.specs.Tables.{filed_at, width_of, root_of, next_of, filed_of, position_of, left_of, right_of, signature_of}
-use Rattle.model.specs.Packed.{position_in, left_in, right_in, Packs}
+use Rattle.model.specs.Tables.{width_of, root_of, next_of, filed_of, position_of, left_of, right_of, signature_of}
+use Rattle.model.specs.Packed.{position_in, left_in, right_in}
 use Rattle.model.specs.Ledger.{Report, bare}
 use Rattle.model.specs.Promises.{unsound, output_after}
 use Rattle.search.specs.Budget.{Budget, unfit, lent, node_less, fork_less}
 use Rattle.search.specs.Marks.{is_marked, mark, listed, cleared}
-
--- what the walk asks of the slices and the query, besides fitting words
-pub record Sized (sigs links marks : List ℕ) (q : ℕ) : Type 0 where
-  pub few : length sigs ≤ most_blocks
-  pub long : filed_at (length sigs) < length links
-  pub room : length sigs ≤ length marks
-  pub wide : width_of links ≤ widest
-  pub low : q < 2 ^ width_of links
-
--- and of the nodes
-pub record SizedPacked (sigs links nodes marks : List ℕ) (q : ℕ) : Type 0 where
-  pub sized : Sized sigs links marks q
-  pub packs : Packs (length sigs) links nodes
-
--- the slice that stands at index i of an array of slices
-abbrev pub slice_at : List (Bor (List ℕ)) → ℕ → List ℕ
-slice_at words i = (get_or words i (record { ref_ptr = (0, 0); now = [] })).now
-
--- two references are one loan: what was lent behind the one comes back from behind the other
-abbrev pub SameLoan : {X : Type 0} → MutBor X → MutBor X → Type 0
-SameLoan a b = a.ghost_name ≡ b.ghost_name
 
 -- block b may be marked: it is 1 to B, filed, not yet marked, and its signature covers q
 unfoldable pub may_mark : List ℕ → List ℕ → ℕ → ℕ → List ℕ → Bool

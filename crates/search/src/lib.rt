@@ -6,70 +6,31 @@ mod list;
 mod marking;
 mod walk;
 
-ghost use Rattle.std.specs.Prelude.{◌≡◌, ◌-◌, ◌≤◌, length};
-ghost use Rattle.model.specs.Questions.{ask, asks_tables, search_refusal};
+ghost use Rattle.std.specs.Prelude.{◌≡◌, ◌-◌, ◌≤◌, length, leb, IfOk};
+ghost use Rattle.answers.specs.Answers.{answer_of, report_of};
+ghost use Rattle.model.specs.Questions.{ask};
 ghost use Rattle.model.specs.Packed.{unpacked};
-ghost use Rattle.model.specs.PackedPromises.{packed_fit, PackedSearch};
-ghost use Rattle.model.specs.Ledger.{bare};
-ghost use Rattle.search.specs.Search.{SizedPacked, found_twin};
-ghost use Rattle.search.specs.Reported.{reported};
+ghost use Rattle.model.specs.PackedPromises.{PackedSearch};
+ghost use Rattle.search.specs.Queries.{blocks_in};
+ghost use Rattle.search.specs.Search.{found_twin};
 
-// What a search reports: the answer, 0 or the refusal, the blocks listed, the leaves compared and the bits read.
-#[derive(Clone, Copy)]
-pub struct Report {
-    pub answer: u32,
-    pub found: u32,
-    pub compares: u32,
-    pub bits: u32,
-}
+use answers::{Counts, Refusal};
+use budget::Budget;
+use marking::Marks;
+use tables::Tables;
+use walk::Query;
 
-// The numbers of document 01's questions: the tables, the query, the marks and the output; and of the tables' soundness.
-const TABLES: u32 = 4;
-
-const QUERY: u32 = 6;
-
-const MARKS: u32 = 9;
-
-const OUTPUT: u32 = 10;
-
-const UNSOUND: u32 = 11;
-
-// The number of the first question whose answer is no, or 0.
-fn asked(
-    signatures: &[u64],
-    links: &[u32],
-    nodes: &[u64],
-    query: u64,
-    marks: usize,
-    output: usize,
-) -> u32
-    ensures { result ≡ ask 4 (packed_fit signatures.now links.now nodes.now) (search_refusal (asks_tables signatures.now (unpacked links.now nodes.now)) query marks output) }
+// Questions 9 and 10: are the marks and the output as long as there are blocks?
+fn buffers_fit(blocks: usize, marks: usize, output: usize) -> Result<(), Refusal>
+    ensures { answer_of result ≡ ask 9 (leb blocks marks) (ask 10 (leb blocks output) 0) }
 {
-    if !tables::front::tables_fit(signatures, links, nodes) {
-        return TABLES;
+    if marks < blocks {
+        return Err(Refusal::ShortScratch);
     }
-    if !signature::fits(query, links[0]) {
-        return QUERY;
+    if output < blocks {
+        return Err(Refusal::ShortOutput);
     }
-    if marks < signatures.len() {
-        return MARKS;
-    }
-    if output < signatures.len() {
-        return OUTPUT;
-    }
-    0
-}
-
-// A report with no list.
-fn no_list(answer: u32) -> Report
-    ensures { reported result ≡ bare answer }
-{
-    Report {
-        answer: answer,
-        found: 0,
-        compares: 0,
-        bits: 0,
-    }
+    Ok(())
 }
 
 // How many of the blocks' number are used where some are left.
@@ -81,61 +42,44 @@ fn used(blocks: usize, left: u64) -> u32
 }
 
 // A search that no question refuses.
-fn find<'b>(
-    signatures: &'b [u64],
-    links: &[u32],
-    nodes: &'b [u64],
-    query: u64,
-    marks: &mut [u8],
-    output: &mut [u32],
-) -> Report
-    requires sized_packed { SizedPacked signatures.now links.now nodes.now marks.old query }
-    requires in_bounds { (1 ≤ length signatures.now) × (length signatures.now ≤ length output.old) }
-    ensures { (reported result, marks.new, output.new) ≡ found_twin signatures.now (unpacked links.now nodes.now) query marks.old output.old }
+fn find(query: &Query, marks: &mut [u8], output: &mut [u32]) -> Result<Counts, Refusal>
+    requires { (blocks_in query.now ≤ length marks.old) × (blocks_in query.now ≤ length output.old) }
+    ensures gives { (report_of result, marks.new, output.new) ≡ found_twin query.now.tables.rows.signatures.now (unpacked query.now.tables.rows.links.now query.now.tables.nodes.now) query.now.bits marks.old output.old }
+    ensures found { IfOk result (λ c. c.found ≤ length output.new) }
 {
-    let blocks = signatures.len();
-    marking::clear_marks(marks, blocks);
-    let root = links[2];
-    if root == 0 {
-        return no_list(0);
+    let rows = &query.tables.rows;
+    let blocks = rows.blocks();
+    let mut marks = Marks::none(marks, blocks);
+    if rows.root() == 0 {
+        return Ok(Counts::default());
     }
-    let left = walk::walk_tree(
-        signatures,
-        links,
-        nodes,
-        marks,
-        query,
-        root,
-        links[0],
-        budget::lend(blocks),
-    );
-    if budget::forks_in(left) == 0 {
-        return no_list(UNSOUND);
+    let left = query.walk_tree(&mut marks, Budget::lend(blocks));
+    if left.forks() == 0 {
+        return Err(Refusal::Unsound);
     }
-    let found = used(blocks, budget::blocks_in(left));
-    list::list_marked(marks, output, blocks, found as usize);
-    Report {
-        answer: 0,
-        found: found,
-        compares: used(blocks, budget::forks_in(left)) + 1,
-        bits: used(blocks - 1, budget::nodes_in(left)),
-    }
+    let found = used(blocks, left.blocks());
+    list::list_marked(&marks, output, blocks, found as usize);
+    Ok(Counts {
+        found,
+        compares: used(blocks, left.forks()) + 1,
+        bits: used(blocks - 1, left.nodes()),
+    })
 }
 
-// Lists the filed blocks whose signatures cover the query.
-pub fn search<'b>(
-    signatures: &'b [u64],
+// Lists the filed blocks whose signatures cover the query. The slices come one by one: some are lent to be read only.
+pub fn search(
+    signatures: &[u64],
     links: &[u32],
-    nodes: &'b [u64],
+    nodes: &[u64],
     query: u64,
     marks: &mut [u8],
     output: &mut [u32],
-) -> Report
-    ensures { PackedSearch signatures.now links.now nodes.now query marks.old output.old (record { answer = result.answer; found = result.found; compares = result.compares; bits = result.bits }) marks.new output.new }
+) -> Result<Counts, Refusal>
+    ensures promise { PackedSearch signatures.now links.now nodes.now query marks.old output.old (report_of result) marks.new output.new }
+    ensures found { IfOk result (λ c. c.found ≤ length output.new) }
 {
-    let no = asked(signatures, links, nodes, query, marks.len(), output.len());
-    if no == 0 {
-        return find(signatures, links, nodes, query, marks, output);
-    }
-    no_list(no)
+    let tables = Tables::of(signatures, links, nodes)?;
+    let query = Query::of(tables, query)?;
+    buffers_fit(signatures.len(), marks.len(), output.len())?;
+    find(&query, marks, output)
 }

@@ -1,49 +1,57 @@
 // The marks: one byte to a block, at index block - 1. All else reads and writes them through these functions.
-ghost use Rattle.std.specs.Prelude.{◌≡◌, true, false, ℕ, ◌+◌, ◌≤◌, ◌<◌, length};
-ghost use Rattle.search.specs.Marks.{is_marked, mark, cleared};
+ghost use Rattle.std.specs.Prelude.{◌≡◌, true, false, ℕ, ◌+◌, ◌≤◌, ◌<◌, length, fold};
+ghost use Rattle.std.specs.Int.Bits.{bit_or};
+ghost use Rattle.search.specs.Marks.{SameLoan, is_marked, mark, cleared};
 
 // how many blocks are looked at together
 pub const RUN: usize = 64;
 
-// Is the block marked?
-pub fn is_marked(marks: &[u8], block: usize) -> bool
-    requires { (1 ≤ block) × (block ≤ length marks.now) }
-    ensures { result ≡ is_marked marks.now block }
-{
-    marks[block - 1] == 1
+// The bytes that a search is lent.
+#[derive(Drop)]
+pub struct Marks<'a> {
+    pub bytes: &'a mut [u8],
 }
 
-// Marks the block.
-pub fn set_mark(marks: &mut [u8], block: usize)
-    requires { (1 ≤ block) × (block ≤ length marks.old) }
-    ensures { marks.new ≡ mark marks.old block }
-{
-    marks[block - 1] = 1;
-}
+impl<'a> Marks<'a> {
+    // The bytes as marks, none of the blocks marked.
+    pub fn none(bytes: &'a mut [u8], blocks: usize) -> Marks<'a>
+        requires { blocks ≤ length bytes.old }
+        ensures loan { SameLoan result.bytes bytes.entry }
+        ensures cleared { result.bytes.now ≡ cleared blocks bytes.old }
+    {
+        bytes[..blocks].fill(0);
+        Marks { bytes }
+    }
 
-// Marks none of the blocks.
-pub fn clear_marks(marks: &mut [u8], blocks: usize)
-    requires { blocks ≤ length marks.old }
-    ensures { marks.new ≡ cleared blocks marks.old }
-{
-    let mut i: usize = 0;
-    while i < blocks {
-        marks[i] = 0;
-        i += 1;
+    // Is the block marked?
+    pub fn is_marked(&self, block: usize) -> bool
+        requires { (1 ≤ block) × (block ≤ length self.now.bytes.now) }
+        ensures { result ≡ is_marked self.now.bytes.now block }
+    {
+        self.bytes[block - 1] == 1
+    }
+
+    // Marks the block.
+    pub fn mark(&mut self, block: usize)
+        requires { (1 ≤ block) × (block ≤ length self.old.bytes.now) }
+        ensures loan { SameLoan self.new.bytes self.old.bytes }
+        ensures marked { self.new.bytes.now ≡ mark self.old.bytes.now block }
+    {
+        self.bytes[block - 1] = 1;
+    }
+
+    // Is none of the 64 blocks after the first `from` marked?
+    pub fn none_marked(&self, from: usize) -> bool
+        requires { (from + 64 ≤ length self.now.bytes.now) × (from ≤ 65535) }
+        ensures { result ≡ true → (i : ℕ) → i < 64 → is_marked self.now.bytes.now (from + i + 1) ≡ false }
+    {
+        all_of(&self.bytes[from..from + RUN]) == 0
     }
 }
 
-// Is none of the 64 blocks after the first `from` marked?
-pub fn none_marked(marks: &[u8], from: usize) -> bool
-    requires { (from + 64 ≤ length marks.now) × (from ≤ 65535) }
-    ensures { result ≡ true → (i : ℕ) → i < 64 → is_marked marks.now (from + i + 1) ≡ false }
+// The bits of all bytes, together.
+fn all_of(bytes: &[u8]) -> u8
+    ensures { result ≡ fold bit_or 0 bytes.now }
 {
-    let run = &marks[from..from + RUN];
-    let mut any: u8 = 0;
-    let mut i: usize = 0;
-    while i < RUN {
-        any = any | run[i];
-        i += 1;
-    }
-    any == 0
+    bytes.iter().fold(0, |all, byte| all | *byte)
 }

@@ -9,18 +9,7 @@ ghost use Rattle.model.specs.Signature.{bit_at, coversb, first_difference};
 pub fn fits(signature: u64, width: u32) -> bool
     ensures { result ≡ ltb signature (2 ^ width) }
 {
-    if 64 <= width {
-        return true;
-    }
-    signature >> width == 0
-}
-
-// The bit at the position, counted from the left: 0 or 1.
-pub fn bit(signature: u64, width: u32, position: u32) -> u32
-    requires { (1 ≤ position) × (position ≤ width) × (width ≤ 64) }
-    ensures { (result ≡ bit_at width signature position) × (result ≤ 1) }
-{
-    ((signature >> (width - position)) & 1) as u32
+    u64::BITS <= width || signature >> width == 0
 }
 
 // Whether the position, counted from the left, is set.
@@ -29,6 +18,14 @@ pub fn is_set(signature: u64, width: u32, position: u32) -> bool
     ensures { result ≡ eqb (bit_at width signature position) 1 }
 {
     (signature >> (width - position)) & 1 == 1
+}
+
+// The bit at the position, counted from the left: 0 or 1.
+pub fn bit(signature: u64, width: u32, position: u32) -> u32
+    requires { (1 ≤ position) × (position ≤ width) × (width ≤ 64) }
+    ensures { (result ≡ bit_at width signature position) × (result ≤ 1) }
+{
+    u32::from(is_set(signature, width, position))
 }
 
 // Whether every position set in the query is set in the signature, whatever the width.

@@ -3,21 +3,14 @@
 
 use std::io;
 
-// A word, then a number.
-fn say(rt: &impl Print, label: &str, number: u64) -> io::Result<()> {
-    print!(rt; "{label}{number}")
-}
-
-// One signing: the text's length, the width, k, the answer and the signature. The answer begins as a number that no call gives.
+// One signing: the text's length, the width, k, the answer and the signature, 0 where the text is refused.
 fn show(rt: &impl Print, text: &[u8], width: u32, k: u32) -> io::Result<u64> {
-    let mut answer = 99;
-    let signature = words::sign(text, width, k, &mut answer);
-    say(rt, "bytes ", text.len() as u64)?;
-    say(rt, " width ", width as u64)?;
-    say(rt, " k ", k as u64)?;
-    say(rt, " answer ", answer as u64)?;
-    say(rt, " signature ", signature)?;
-    println!(rt; "")?;
+    let (answer, signature) = match words::sign(text, width, k) {
+        Ok(signature) => (0, signature),
+        Err(refusal) => (u32::from(refusal), 0),
+    };
+    let bytes = text.len();
+    println!(rt; "bytes {bytes} width {width} k {k} answer {answer} signature {signature}")?;
     Ok(signature)
 }
 
@@ -25,18 +18,13 @@ fn show(rt: &impl Print, text: &[u8], width: u32, k: u32) -> io::Result<u64> {
 fn split(rt: &impl Print, text: &[u8], n: u32) -> io::Result<()> {
     let mut answer = 99;
     let word = words::word(text, n, &mut answer);
-    say(rt, "word ", n as u64)?;
-    say(rt, " answer ", answer as u64)?;
-    say(rt, " bytes ", word.len() as u64)?;
-    print!(rt; " [")?;
+    let bytes = word.len();
+    print!(rt; "word {n} answer {answer} bytes {bytes} [")?;
     rt.write_all(word)?;
     let mut start = 0;
     let mut size = 0;
     let placed = words::word_place(text, n, &mut start, &mut size);
-    say(rt, "] answer ", placed as u64)?;
-    say(rt, " start ", start as u64)?;
-    say(rt, " size ", size as u64)?;
-    println!(rt; "")
+    println!(rt; "] answer {placed} start {start} size {size}")
 }
 
 // Document 01's triplets at width 12, and words of 1, 2 and 3 bytes.
@@ -82,9 +70,9 @@ fn covered(rt: &impl Print) -> io::Result<()> {
     let block = show(rt, b"the quick brown fox\njumps", 64, 3)?;
     let query = show(rt, b"fox the", 64, 3)?;
     let other = show(rt, b"lazy dog", 64, 3)?;
-    say(rt, "covers ", signature::covers(block, query) as u64)?;
-    say(rt, " ", signature::covers(block, other) as u64)?;
-    println!(rt; "")
+    let same = u8::from(signature::covers(block, query));
+    let another = u8::from(signature::covers(block, other));
+    println!(rt; "covers {same} {another}")
 }
 
 // The words of a text, counted from 1, and the empty part where there is none.

@@ -14,6 +14,11 @@ use Rattle.model.specs.Promises.{Listing, GivenUp, SearchPromise}
 use Rattle.model.specs.Lists.{Memory, TablesOnly, Gives, GivesReading}
 use Rattle.model.specs.PackedPromises.{PackedClear, PackedFile, PackedWithdraw, PackedRebuild, PackedSearch, Stays, packed_fit}
 use Rattle.model.specs.PackedLists.{PackedMemory, PackedGives, PackedSlip, held}
+use Rattle.std.specs.Prelude.{Result}
+use Rattle.answers.specs.declared.refusal.Refusal.{Refusal}
+use Rattle.answers.specs.declared.report.Counts.{Counts}
+use Rattle.answers.specs.declared.report.Report as answers
+use Rattle.answers.specs.Answers.{report_of, numbers_of}
 use Rattle.sigtree.specs.Face.{lent}
 
 -- no count, nothing found
@@ -127,3 +132,7 @@ search_gives sigs links nodes scratch marks output marks' output' q o p =
   where
     four : (o ≡ bare 4) × (marks' ≡ marks) × (output' ≡ output) → (o ≡ bare 4) × (lent sigs links nodes scratch marks' output' ≡ lent sigs links nodes scratch marks output)
     four (e, a, b) = (e, rw (a, b) refl)
+
+-- the report that is told is that of the call
+pub told : (bytes : List ℕ) (M : PackedMemory) (outcome : Result Counts Refusal) (r : answers.Report) (M' : PackedMemory) → numbers_of r ≡ report_of outcome → PackedSlip bytes M (report_of outcome) M' → PackedSlip bytes M (numbers_of r) M'
+told bytes M outcome r M' e g = subst (λ (o : Report). PackedSlip bytes M o M') (sym e) g

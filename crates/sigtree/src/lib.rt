@@ -1,139 +1,17 @@
-// The public face: the calls, with plain numbers and slices. Each function hands on to the crate of its call, whose promise it repeats;
-// no function here asks anything of its caller. The crate `sigtree_c` gives them to C and Rust.
+// The library for callers in Rattle: each call under its own name, and the slip reader, which carries out the call that a slip carries. The
+// crate `sigtree_c` gives them to C and Rust with plain numbers and slices.
 #![tactic(auto)]
 
 mod slip;
+mod work;
 
-ghost use Rattle.model.specs.PackedPromises.{PackedClear, PackedFile, PackedWithdraw, PackedRebuild, PackedSearch, PackedAudit, PackPromise, UnpackPromise};
-ghost use Rattle.model.specs.PackedLists.{PackedSlip};
-ghost use Rattle.sigtree.specs.Face.{lent, reported};
-ghost use Rattle.model.specs.Words.{SignPromise, PlacePromise};
-
+pub use audit::{audit, audit_unpacked};
+pub use clear::clear;
+pub use convert::{pack, unpack};
+pub use file::file;
+pub use rebuild::rebuild;
+pub use search::search;
 pub use slip::carry_out;
-
-// Empties the index and sets its width.
-pub fn sigtree_clear(
-    signatures: &mut [u64],
-    links: &mut [u32],
-    nodes: &mut [u64],
-    width: u32,
-) -> u32
-    ensures { PackedClear signatures.old links.old nodes.old width result signatures.new links.new nodes.new }
-{
-    clear::clear(signatures, links, nodes, width)
-}
-
-// Files a block with its signature.
-pub fn sigtree_file(
-    signatures: &mut [u64],
-    links: &mut [u32],
-    nodes: &mut [u64],
-    block: u32,
-    signature: u64,
-) -> u32
-    ensures { PackedFile signatures.old links.old nodes.old block signature result signatures.new links.new nodes.new }
-{
-    file::file(signatures, links, nodes, block, signature)
-}
-
-// Takes a block out.
-pub fn sigtree_withdraw(
-    signatures: &mut [u64],
-    links: &mut [u32],
-    nodes: &mut [u64],
-    block: u32,
-) -> u32
-    ensures { PackedWithdraw signatures.old links.old nodes.old block result signatures.new links.new nodes.new }
-{
-    withdraw::withdraw(signatures, links, nodes, block)
-}
-
-// Makes the tree anew.
-pub fn sigtree_rebuild(
-    signatures: &[u64],
-    links: &mut [u32],
-    nodes: &mut [u64],
-    scratch: &mut [u32],
-) -> u32
-    ensures { PackedRebuild signatures.now links.old nodes.old scratch.old result links.new nodes.new scratch.new }
-{
-    rebuild::rebuild(signatures, links, nodes, scratch)
-}
-
-// Lists the filed blocks whose signature covers the query.
-pub fn sigtree_search<'b>(
-    signatures: &'b [u64],
-    links: &[u32],
-    nodes: &'b [u64],
-    query: u64,
-    marks: &mut [u8],
-    output: &mut [u32],
-    found: &mut u32,
-    compares: &mut u32,
-    bits: &mut u32,
-) -> u32
-    ensures { PackedSearch signatures.now links.now nodes.now query marks.old output.old (reported result found.new compares.new bits.new) marks.new output.new }
-{
-    let report = search::search(signatures, links, nodes, query, marks, output);
-    *found = report.found;
-    *compares = report.compares;
-    *bits = report.bits;
-    report.answer
-}
-
-// Are the tables sound?
-pub fn sigtree_audit(signatures: &[u64], links: &[u32], nodes: &[u64]) -> u32
-    ensures { PackedAudit signatures.now links.now nodes.now result }
-{
-    audit::audit(signatures, links, nodes)
-}
-
-// From tables of 5B + 2 links to packed ones.
-pub fn sigtree_pack(signatures: &[u64], old: &[u32], links: &mut [u32], nodes: &mut [u64]) -> u32
-    ensures { PackPromise signatures.now old.now links.old nodes.old result links.new nodes.new }
-{
-    convert::pack(signatures, old, links, nodes)
-}
-
-// And back.
-pub fn sigtree_unpack(signatures: &[u64], links: &[u32], nodes: &[u64], old: &mut [u32]) -> u32
-    ensures { UnpackPromise signatures.now links.now nodes.now old.old result old.new }
-{
-    convert::unpack(signatures, links, nodes, old)
-}
-
-// Carries out a slip: any bytes of any length.
-pub fn sigtree_slip(
-    slip: &[u8],
-    signatures: &mut [u64],
-    links: &mut [u32],
-    nodes: &mut [u64],
-    scratch: &mut [u32],
-    marks: &mut [u8],
-    output: &mut [u32],
-    found: &mut u32,
-    compares: &mut u32,
-    bits: &mut u32,
-) -> u32
-    ensures { PackedSlip slip.now (lent signatures.old links.old nodes.old scratch.old marks.old output.old) (reported result found.new compares.new bits.new) (lent signatures.new links.new nodes.new scratch.new marks.new output.new) }
-{
-    let carried = slip::carry_out(slip, signatures, links, nodes, scratch, marks, output);
-    *found = carried.found;
-    *compares = carried.compares;
-    *bits = carried.bits;
-    carried.answer
-}
-
-// The signature of a text.
-pub fn sigtree_sign(text: &[u8], width: u32, k: u32, answer: &mut u32) -> u64
-    ensures { SignPromise width k text.now answer.new result }
-{
-    words::sign(text, width, k, answer)
-}
-
-// Where word n of a text stands. It stands in for the splitter, whose returned part C cannot have.
-pub fn sigtree_word(text: &[u8], n: u32, start: &mut usize, size: &mut usize) -> u32
-    ensures { PlacePromise text.now n result start.new size.new }
-{
-    words::word_place(text, n, start, size)
-}
+pub use withdraw::withdraw;
+pub use words::{sign, word, word_place};
+pub use work::Work;

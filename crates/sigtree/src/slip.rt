@@ -1,46 +1,71 @@
 // The slip reader: the call that a slip carries, on the slices that are lent with it.
-ghost use Rattle.std.specs.Prelude.{◌≡◌, ◌≤◌, length};
-ghost use Rattle.model.specs.Ledger.{bare};
+ghost use Rattle.std.specs.Prelude.{◌≡◌, ◌≤◌, length, IfOk};
+ghost use Rattle.model.specs.PackedPromises.{PackedRebuild, PackedSearch};
 ghost use Rattle.model.specs.PackedLists.{PackedSlip};
-ghost use Rattle.sigtree.specs.Face.{lent, reported};
+ghost use Rattle.answers.specs.Answers.{answer_of, report_of};
+ghost use Rattle.tables.specs.Changed.{SameLoans};
+ghost use Rattle.sigtree.specs.Held.{lent_in, SameWork};
 
-use search::Report;
+use crate::work::Work;
+use answers::{Counts, Refusal};
 use slips::Order;
+use tables::TablesMut;
 
-// An answer with no counts.
-fn answered(answer: u32) -> Report
-    ensures { reported result.answer result.found result.compares result.bits ≡ bare answer }
-{
-    Report {
-        answer: answer,
-        found: 0,
-        compares: 0,
-        bits: 0,
-    }
-}
-
-// Questions 1 to 3, then the call's own; the promise is that of the call carried out.
-pub fn carry_out(
-    slip: &[u8],
+// A rebuild only reads the signatures: here they are lent to be changed, and are not.
+fn rebuild_lent(
     signatures: &mut [u64],
     links: &mut [u32],
     nodes: &mut [u64],
     scratch: &mut [u32],
+) -> Result<(), Refusal>
+    ensures promise { PackedRebuild signatures.old links.old nodes.old scratch.old (answer_of result) links.new nodes.new scratch.new }
+    ensures signatures { signatures.new ≡ signatures.old }
+{
+    rebuild::rebuild(signatures, links, nodes, scratch)
+}
+
+// Rebuilds the lent tables.
+fn rebuild(tables: &mut TablesMut, scratch: &mut [u32]) -> Result<(), Refusal>
+    ensures promise { PackedRebuild tables.old.signatures.now tables.old.links.now tables.old.nodes.now scratch.old (answer_of result) tables.new.links.now tables.new.nodes.now scratch.new }
+    ensures signatures { tables.new.signatures.now ≡ tables.old.signatures.now }
+    ensures loans { SameLoans tables.old tables.new }
+{
+    rebuild_lent(tables.signatures, tables.links, tables.nodes, scratch)
+}
+
+// Searches the lent tables.
+fn search(
+    tables: &TablesMut,
+    query: u64,
     marks: &mut [u8],
     output: &mut [u32],
-) -> Report
-    ensures promise { PackedSlip slip.now (lent signatures.old links.old nodes.old scratch.old marks.old output.old) (reported result.answer result.found result.compares result.bits) (lent signatures.new links.new nodes.new scratch.new marks.new output.new) }
-    ensures found { result.found ≤ length output.new }
+) -> Result<Counts, Refusal>
+    ensures promise { PackedSearch tables.now.signatures.now tables.now.links.now tables.now.nodes.now query marks.old output.old (report_of result) marks.new output.new }
+    ensures found { IfOk result (λ counts. counts.found ≤ length output.new) }
 {
-    let order = slips::read(slip);
-    match order {
-        Order::Refused(number) => answered(number),
-        Order::Clear(width) => answered(clear::clear(signatures, links, nodes, width)),
-        Order::File(block, signature) => answered(file::file(
-            signatures, links, nodes, block, signature,
-        )),
-        Order::Withdraw(block) => answered(withdraw::withdraw(signatures, links, nodes, block)),
-        Order::Rebuild => answered(rebuild::rebuild(signatures, links, nodes, scratch)),
-        Order::Search(query) => search::search(signatures, links, nodes, query, marks, output),
+    search::search(
+        tables.signatures,
+        tables.links,
+        tables.nodes,
+        query,
+        marks,
+        output,
+    )
+}
+
+// Questions 1 to 3, then the call's own; the promise is that of the call carried out. (One struct of tables and work was tried: a caller who
+// makes it of slices that he is lent learns nothing of them afterwards.)
+pub fn carry_out(slip: &[u8], tables: &mut TablesMut, work: &mut Work) -> Result<Counts, Refusal>
+    ensures promise { PackedSlip slip.now (lent_in tables.old work.old) (report_of result) (lent_in tables.new work.new) }
+    ensures found { IfOk result (λ counts. counts.found ≤ length work.new.output.now) }
+    ensures loans { SameLoans tables.old tables.new × SameWork work.old work.new }
+{
+    match slips::read(slip)? {
+        Order::Clear { width } => clear::clear(tables, width)?,
+        Order::File { block, signature } => file::file(tables, block, signature)?,
+        Order::Withdraw { block } => withdraw::withdraw(tables, block)?,
+        Order::Rebuild => rebuild(tables, work.scratch)?,
+        Order::Search { query } => return search(tables, query, work.marks, work.output),
     }
+    Ok(Counts::default())
 }

@@ -1,10 +1,18 @@
-// The public face as C and Rust link it, in libsigtree.a: each function of `sigtree` under its own name, with the same promise.
+// The public face as C and Rust link it, in libsigtree.a: plain numbers and slices. Each function hands on to the crate of its call, whose
+// promise it repeats in document 01's numbers; no function here asks anything of its caller. (C has no Result, and lends each slice by
+// itself, some to be read only.)
 #![tactic(auto)]
 
 ghost use Rattle.model.specs.PackedPromises.{PackedClear, PackedFile, PackedWithdraw, PackedRebuild, PackedSearch, PackedAudit, PackPromise, UnpackPromise};
 ghost use Rattle.model.specs.PackedLists.{PackedSlip};
+ghost use Rattle.std.specs.Prelude.{◌≡◌};
+ghost use Rattle.answers.specs.Answers.{report_of};
 ghost use Rattle.sigtree.specs.Face.{lent, reported};
 ghost use Rattle.model.specs.Words.{SignPromise, PlacePromise};
+
+use answers::{Counts, Refusal, Report, answer};
+use sigtree::Work;
+use tables::TablesMut;
 
 // Empties the index and sets its width.
 #[unsafe(no_mangle)]
@@ -16,7 +24,12 @@ pub extern "C" fn sigtree_clear(
 ) -> u32
     ensures { PackedClear signatures.old links.old nodes.old width result signatures.new links.new nodes.new }
 {
-    sigtree::sigtree_clear(signatures, links, nodes, width)
+    let mut tables = TablesMut {
+        signatures,
+        links,
+        nodes,
+    };
+    answer(&clear::clear(&mut tables, width))
 }
 
 // Files a block with its signature.
@@ -30,7 +43,12 @@ pub extern "C" fn sigtree_file(
 ) -> u32
     ensures { PackedFile signatures.old links.old nodes.old block signature result signatures.new links.new nodes.new }
 {
-    sigtree::sigtree_file(signatures, links, nodes, block, signature)
+    let mut tables = TablesMut {
+        signatures,
+        links,
+        nodes,
+    };
+    answer(&file::file(&mut tables, block, signature))
 }
 
 // Takes a block out.
@@ -43,7 +61,12 @@ pub extern "C" fn sigtree_withdraw(
 ) -> u32
     ensures { PackedWithdraw signatures.old links.old nodes.old block result signatures.new links.new nodes.new }
 {
-    sigtree::sigtree_withdraw(signatures, links, nodes, block)
+    let mut tables = TablesMut {
+        signatures,
+        links,
+        nodes,
+    };
+    answer(&withdraw::withdraw(&mut tables, block))
 }
 
 // Makes the tree anew.
@@ -56,15 +79,31 @@ pub extern "C" fn sigtree_rebuild(
 ) -> u32
     ensures { PackedRebuild signatures.now links.old nodes.old scratch.old result links.new nodes.new scratch.new }
 {
-    sigtree::sigtree_rebuild(signatures, links, nodes, scratch)
+    answer(&rebuild::rebuild(signatures, links, nodes, scratch))
+}
+
+// Tells the counts and gives the answer.
+fn tell(
+    outcome: Result<Counts, Refusal>,
+    found: &mut u32,
+    compares: &mut u32,
+    bits: &mut u32,
+) -> u32
+    ensures { reported result found.new compares.new bits.new ≡ report_of outcome }
+{
+    let Report { answer, counts } = Report::from(outcome);
+    *found = counts.found;
+    *compares = counts.compares;
+    *bits = counts.bits;
+    answer
 }
 
 // Lists the filed blocks whose signature covers the query.
 #[unsafe(no_mangle)]
-pub extern "C" fn sigtree_search<'b>(
-    signatures: &'b [u64],
+pub extern "C" fn sigtree_search(
+    signatures: &[u64],
     links: &[u32],
-    nodes: &'b [u64],
+    nodes: &[u64],
     query: u64,
     marks: &mut [u8],
     output: &mut [u32],
@@ -74,9 +113,8 @@ pub extern "C" fn sigtree_search<'b>(
 ) -> u32
     ensures { PackedSearch signatures.now links.now nodes.now query marks.old output.old (reported result found.new compares.new bits.new) marks.new output.new }
 {
-    sigtree::sigtree_search(
-        signatures, links, nodes, query, marks, output, found, compares, bits,
-    )
+    let outcome = search::search(signatures, links, nodes, query, marks, output);
+    tell(outcome, found, compares, bits)
 }
 
 // Are the tables sound?
@@ -84,7 +122,7 @@ pub extern "C" fn sigtree_search<'b>(
 pub extern "C" fn sigtree_audit(signatures: &[u64], links: &[u32], nodes: &[u64]) -> u32
     ensures { PackedAudit signatures.now links.now nodes.now result }
 {
-    sigtree::sigtree_audit(signatures, links, nodes)
+    answer(&audit::audit(signatures, links, nodes))
 }
 
 // From tables of 5B + 2 links to packed ones.
@@ -97,7 +135,7 @@ pub extern "C" fn sigtree_pack(
 ) -> u32
     ensures { PackPromise signatures.now old.now links.old nodes.old result links.new nodes.new }
 {
-    sigtree::sigtree_pack(signatures, old, links, nodes)
+    answer(&convert::pack(signatures, old, links, nodes))
 }
 
 // And back.
@@ -110,7 +148,7 @@ pub extern "C" fn sigtree_unpack(
 ) -> u32
     ensures { UnpackPromise signatures.now links.now nodes.now old.old result old.new }
 {
-    sigtree::sigtree_unpack(signatures, links, nodes, old)
+    answer(&convert::unpack(signatures, links, nodes, old))
 }
 
 // Carries out a slip: any bytes of any length.
@@ -129,8 +167,21 @@ pub extern "C" fn sigtree_slip(
 ) -> u32
     ensures { PackedSlip slip.now (lent signatures.old links.old nodes.old scratch.old marks.old output.old) (reported result found.new compares.new bits.new) (lent signatures.new links.new nodes.new scratch.new marks.new output.new) }
 {
-    sigtree::sigtree_slip(
-        slip, signatures, links, nodes, scratch, marks, output, found, compares, bits,
+    let mut tables = TablesMut {
+        signatures,
+        links,
+        nodes,
+    };
+    let mut work = Work {
+        scratch,
+        marks,
+        output,
+    };
+    tell(
+        sigtree::carry_out(slip, &mut tables, &mut work),
+        found,
+        compares,
+        bits,
     )
 }
 
@@ -139,7 +190,9 @@ pub extern "C" fn sigtree_slip(
 pub extern "C" fn sigtree_sign(text: &[u8], width: u32, k: u32, answer: &mut u32) -> u64
     ensures { SignPromise width k text.now answer.new result }
 {
-    sigtree::sigtree_sign(text, width, k, answer)
+    let outcome = words::sign(text, width, k);
+    *answer = answers::answer(&outcome);
+    outcome.unwrap_or(0)
 }
 
 // Where word n of a text stands. It stands in for the splitter, whose returned part C cannot have.
@@ -147,5 +200,5 @@ pub extern "C" fn sigtree_sign(text: &[u8], width: u32, k: u32, answer: &mut u32
 pub extern "C" fn sigtree_word(text: &[u8], n: u32, start: &mut usize, size: &mut usize) -> u32
     ensures { PlacePromise text.now n result start.new size.new }
 {
-    sigtree::sigtree_word(text, n, start, size)
+    words::word_place(text, n, start, size)
 }

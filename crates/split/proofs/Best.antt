@@ -4,7 +4,7 @@
 use Prim.Native.Nat.{ℕ, zero, suc, ◌+◌, ◌-◌, ◌≤◌, ◌<◌, zero-le}
 use native.Mathlib.Nat.{eq-or-lt_of_le}
 use native.Mathlib.Omega.{arith}
-use mathlib.Core.Path.{◌≡◌, refl, sym, ◌∙◌}
+use mathlib.Core.Path.{◌≡◌, refl, sym, ◌∙◌, ap}
 use mathlib.Core.Logic.{⊎_elim}
 use mathlib.Core.List.{List, [], ◌∷◌}
 use lib.ListN.{length}
@@ -81,24 +81,35 @@ pub apart_same : (sigs a b : List ℕ) → Same a b → Apart sigs a → Apart s
 unfolding Apart
 apart_same sigs a b s d v = omega (arith, d v, s (hits sigs v))
 
--- a turn of the loop that looks for the best position
-module _ (F : ℕ) (of : ℕ → ℕ) (xs : List ℕ) (best j answer : ℕ) where
-  pub turn_yes : j < F → smaller F of best xs < smaller F of (j + 1) xs → best_of F of xs best (up_from (F - j) (suc j)) ≡ answer → best_of F of xs (j + 1) (up_from (F - (j + 1)) (suc (j + 1))) ≡ answer
-  unfolding up_from
-  turn_yes h lt e =
-      let n : F - j ≡ suc (F - (j + 1)) = omega arith in
-      let o : j + 1 ≡ suc j = omega arith in
-      let w : best_of F of xs best (suc j ∷ up_from (F - (j + 1)) (suc (suc j))) ≡ answer = rw n at e in
-      rw o (sym (best_yes F of xs best (suc j) _ (rw o at lt)) ∙ rw o at w)
+-- best is the best of the positions below j, with this smaller side: tried against those to come it gives the best of all
+pub record Trying (F : ℕ) (of : ℕ → ℕ) (xs : List ℕ) (j best size : ℕ) : Type 0 where
+  pub from : 1 ≤ best
+  pub to : best ≤ F
+  pub smaller_side : size ≡ smaller F of best xs
+  pub best_of_all : best_of F of xs best (up_from (F + 1 - j) j) ≡ best_position F of xs
 
-  pub turn_no : j < F → smaller F of (j + 1) xs ≤ smaller F of best xs → best_of F of xs best (up_from (F - j) (suc j)) ≡ answer → best_of F of xs best (up_from (F - (j + 1)) (suc (j + 1))) ≡ answer
-  unfolding up_from
-  turn_no h le e =
-      let n : F - j ≡ suc (F - (j + 1)) = omega arith in
-      let o : j + 1 ≡ suc j = omega arith in
-      let w : best_of F of xs best (suc j ∷ up_from (F - (j + 1)) (suc (suc j))) ≡ answer = rw n at e in
-      rw o (sym (best_no F of xs best (suc j) _ (rw o at le)) ∙ rw o at w)
+module _ (F : ℕ) (of : ℕ → ℕ) (xs : List ℕ) where
+  pub trying_first : (size : ℕ) → 1 ≤ F → size ≡ smaller F of 1 xs → Trying F of xs 2 1 size
+  trying_first size h e =
+      let n : F + 1 - 2 ≡ F - 1 = omega arith in
+      record { from = omega arith; to = h; smaller_side = e; best_of_all = ap (λ n. best_of F of xs 1 (up_from n 2)) n }
 
-  pub turn_end : j ≡ F → best_of F of xs best (up_from (F - j) (suc j)) ≡ answer → best ≡ answer
+module _ {F : ℕ} {of : ℕ → ℕ} {xs : List ℕ} {j best size : ℕ} (t : Trying F of xs j best size) where
+  tried : j ≤ F → best_of F of xs best (j ∷ up_from (F + 1 - (j + 1)) (j + 1)) ≡ best_position F of xs
+  unfolding up_from
+  tried h =
+      let n : F + 1 - j ≡ suc (F + 1 - suc j) = omega arith in
+      let o : j + 1 ≡ suc j = omega arith in
+      rw o (rw n at t.best_of_all)
+
+  pub trying_yes : (next : ℕ) → 2 ≤ j → j ≤ F → next ≡ smaller F of j xs → size < next → Trying F of xs (j + 1) j next
+  trying_yes next lo h e lt =
+      record { from = omega arith; to = h; smaller_side = e; best_of_all = sym (best_yes F of xs best j _ (rw (← t.smaller_side, ← e) lt)) ∙ tried h }
+
+  pub trying_no : (next : ℕ) → j ≤ F → next ≡ smaller F of j xs → next ≤ size → Trying F of xs (j + 1) best size
+  trying_no next h e le =
+      record { from = t.from; to = t.to; smaller_side = t.smaller_side; best_of_all = sym (best_no F of xs best j _ (rw (← t.smaller_side, ← e) le)) ∙ tried h }
+
+  pub trying_last : F < j → best ≡ best_position F of xs
   unfolding up_from best_of
-  turn_end h e = let n : F - j ≡ 0 = omega arith in rw n at e
+  trying_last h = let n : F + 1 - j ≡ 0 = omega arith in rw n at t.best_of_all

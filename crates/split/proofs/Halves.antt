@@ -57,9 +57,9 @@ pub record Known (F : ℕ) (sigs g after nodes : List ℕ) (p k i t : ℕ) : Typ
   pub halved : Halved F (signature_of sigs) g after p k
   pub many : 2 ≤ length g
 
-pub known : {F : ℕ} {sigs g after nodes : List ℕ} {p k i t : ℕ} → length g ≡ t → Group F sigs g → length sigs ≤ 65535 → length nodes + 1 ≡ length sigs → (1 ≤ i) × (i + length g ≤ length sigs + 1)
+pub known : {F : ℕ} {sigs g after nodes : List ℕ} {p k i t : ℕ} → length g ≡ t → Group F sigs g → (length sigs ≤ 65535) × (length nodes + 1 ≡ length sigs) → (1 ≤ i) × (i + length g ≤ length sigs + 1)
     → Halved F (signature_of sigs) g after p k → 2 ≤ length g → Known F sigs g after nodes p k i t
-known e g s r n h m = record { measure = e; group = g; small = s; room = r; node = n; halved = h; many = m }
+known e g r n h m = record { measure = e; group = g; small = r.0; room = r.1; node = n; halved = h; many = m }
 
 -- the numbers in it: B blocks, a group of n blocks, after blocks after the split, k of them in the left half, and node i
 pub record Bounds (B n after k i : ℕ) : Type 0 where
@@ -70,7 +70,7 @@ pub record Bounds (B n after k i : ℕ) : Type 0 where
   pub from : 1 ≤ i
   pub to : i + n ≤ B + 1
 
-module _ (F : ℕ) (sigs g after nodes : List ℕ) (p k i t : ℕ) (h : Known F sigs g after nodes p k i t) where
+module _ {F : ℕ} {sigs g after nodes : List ℕ} {p k i t : ℕ} (h : Known F sigs g after nodes p k i t) where
   abbrev B : ℕ
   B = length sigs
 
@@ -83,7 +83,7 @@ module _ (F : ℕ) (sigs g after nodes : List ℕ) (p k i t : ℕ) (h : Known F 
   after_length : length after ≡ length g
   after_length = same_length after g h.halved.same
 
-  pub low_length : length (take k after) ≡ k
+  low_length : length (take k after) ≡ k
   low_length = length-take-le k after h.halved.fits
 
   high_length : length high ≡ length g - k
@@ -180,7 +180,7 @@ module _ (F : ℕ) (sigs g after nodes : List ℕ) (p k i t : ℕ) (h : Known F 
     ys_length : length ys ≡ k
     ys_length = same ∙ low_length
 
-    pub whole_length : length (ys ++ drop k after) ≡ length g
+    whole_length : length (ys ++ drop k after) ≡ length g
     whole_length = let q = some in simp length-append (omega (arith, ys_length, high_length))
 
     pub rest : take (length (ys ++ drop k after) - k) (drop k (ys ++ drop k after)) ≡ drop k after
@@ -188,21 +188,6 @@ module _ (F : ℕ) (sigs g after nodes : List ℕ) (p k i t : ℕ) (h : Known F 
         let n = whole_length in
         let m = high_length in
         rw (drop_at ys (drop k after) k ys_length) (take_all (length (ys ++ drop k after) - k) (drop k after) (omega arith))
-
-    -- the group once the right half is back has as many entries as it had
-    pub back_length : (zs : List ℕ) → length zs ≡ length (take (length (ys ++ drop k after) - k) (drop k (ys ++ drop k after)))
-        → length (take k (ys ++ drop k after) ++ (zs ++ drop (length (ys ++ drop k after) - k) (drop k (ys ++ drop k after)))) ≡ length g
-    back_length zs e =
-        let w = whole_length in
-        let r = ap length rest in
-        let m = high_length in
-        let q = some in
-        let a = length-take-le k (ys ++ drop k after) (omega arith) in
-        let b = length-drop k (ys ++ drop k after) in
-        let n : ℕ = length (ys ++ drop k after) - k in
-        let D : List ℕ = drop n (drop k (ys ++ drop k after)) in
-        let d = length-drop n (drop k (ys ++ drop k after)) in
-        omega (arith, length-append (take k (ys ++ drop k after)) (zs ++ D), length-append zs D)
 
     -- what the call for the right half asks
     pub right_asks : (l : List ℕ) → length l ≡ length nodes

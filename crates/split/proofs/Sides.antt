@@ -9,6 +9,8 @@ use mathlib.Core.List.{List, [], ◌∷◌}
 use lib.Dec.{eqb}
 use lib.ListN.{length, get_or, take, drop, length-drop}
 use lib.Seq.{get_or-take, get_or-drop, length-take-le}
+use Rattle.std.specs.List.{sum_by}
+use Rattle.std.proofs.lemmas.List.Recursion.{is_sum_by}
 use Rattle.model.specs.Basics.{keep}
 use Rattle.model.specs.Signature.{bit_at}
 use Rattle.model.specs.Build.{side}
@@ -32,6 +34,10 @@ module _ (F : ℕ) (of : ℕ → ℕ) (p : ℕ) where
       go : (bit x ≡ 0) ⊎ (bit x ≡ 1) → length (side F of p 1 l) ≡ total bit l → length (side F of p 1 (x ∷ l)) ≡ bit x + total bit l
       go (inl h) ih = omega (arith, ap length (side_out F of p 1 x l (omega arith)))
       go (inr h) ih = omega (arith, ap length (side_in F of p 1 x l h))
+
+  -- as std sums them
+  pub ones_sum : (l : List ℕ) → length (side F of p 1 l) ≡ sum_by bit l
+  ones_sum l = ones_total l ∙ is_sum_by (total bit) bit refl (λ _ _. refl) l
 
 -- a list parted in place has its sides there
 module _ (F : ℕ) (of : ℕ → ℕ) (p : ℕ) (before after : List ℕ) (k : ℕ) (h : Parted F of p before after k) where

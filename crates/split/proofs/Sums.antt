@@ -2,12 +2,11 @@
 -- over them is.
 -- Assumes nothing.
 use Prim.Native.Nat.{ℕ, zero, suc, ◌+◌, ◌-◌, ◌≤◌, ◌<◌}
-use native.Mathlib.Numerals.{add-one}
 use native.Mathlib.Omega.{arith}
 use mathlib.Core.Path.{◌≡◌, refl, sym, ◌∙◌, ap}
 use mathlib.Core.List.{List, [], ◌∷◌}
 use lib.ListN.{length, get_or, set, take, drop, length-set, length-drop, take-append-drop}
-use lib.Seq.{get_or-take, get_or-drop, length-take-le, take-suc}
+use lib.Seq.{get_or-take, get_or-drop, length-take-le}
 use Rattle.model.proofs.Members.{total, total_append, Same}
 use Rattle.split.specs.Split.{Blocks}
 
@@ -33,10 +32,6 @@ total_none : (f : ℕ → ℕ) (l : List ℕ) → total f l ≡ 0 → (i : ℕ) 
 total_none f [] h i p = absurd (omega arith)
 total_none f (x ∷ l) h zero p = omega arith
 total_none f (x ∷ l) h (suc i) p = total_none f l (omega arith) i (omega arith)
-
--- one entry more
-pub total_more : (f : ℕ → ℕ) (l : List ℕ) (i : ℕ) → i < length l → total f (take (i + 1) l) ≡ total f (take i l) + f (get_or l i 0)
-total_more f l i h = rw (add-one, take-suc l i 0) (total_append f (take i l) (get_or l i 0 ∷ []) ∙ omega arith)
 
 -- Lists with the same entries
 

@@ -3,13 +3,20 @@
 use Prim.Native.Nat.{ℕ, zero, suc, ◌+◌, ◌-◌, ◌≤◌, ◌<◌}
 use native.Mathlib.Omega.{arith}
 use mathlib.Core.Path.{◌≡◌, refl, sym, ◌∙◌, ap, subst}
-use mathlib.Core.Logic.{◌⊎◌, inl, inr}
+use mathlib.Core.Logic.{◌⊎◌, inl, inr, ◌↔◌}
+use mathlib.Core.Bool.{Bool, true, false}
+use lib.Dec.{eqb}
 use mathlib.Core.List.{List}
 use lib.ListN.{get_or}
 use Rattle.model.specs.Signature.{bit_at}
 use Rattle.model.specs.Tables.{position_of, side_of}
 use Rattle.model.specs.Packed.{position_in, part_in, unpacked, Packs}
 use Rattle.model.proofs.Packing.{node_position, node_left, node_right, part_left, part_right}
+use Rattle.model.proofs.Asking.{true_false}
+use Rattle.model.proofs.Bits.{bit_cases}
+use Rattle.tables.specs.declared.side.Side.{Side}
+use Rattle.tables.specs.declared.side.Side.TheVariants.{Left, Right}
+use Rattle.tables.specs.Sides.{side_number}
 use Rattle.tables.specs.Walk.{EdgeOf, EdgeIn}
 
 le_cases : (e : ℕ) → e ≤ 1 → (e ≡ 0) ⊎ (e ≡ 1)
@@ -21,6 +28,16 @@ no_side n = record { fit = λ f. absurd (n f); node = λ h. absurd (omega arith)
 
 pub a_side : {F w s p e : ℕ} → p ≡ position_in w → 1 ≤ p → p ≤ F → e ≡ bit_at F s p → e ≤ 1 → EdgeIn F w s e
 a_side {F} {w} {s} d l h x k = record { fit = λ _. k; node = λ _. (omega arith, omega arith); bit = λ _. x ∙ ap (bit_at F s) d }
+
+-- the side of a bit that was tested
+pub side_of_bit : (F s p : ℕ) (t : Bool) (side : Side) → t ≡ eqb (bit_at F s p) 1 → (side_number side ≡ 1) ↔ (t ≡ true) → side_number side ≡ bit_at F s p
+side_of_bit F s p t side e h = go (bit_cases F s p) side h
+  where
+    go : (bit_at F s p ≡ 0) ⊎ (bit_at F s p ≡ 1) → (side : Side) → (side_number side ≡ 1) ↔ (t ≡ true) → side_number side ≡ bit_at F s p
+    go (inl z) Left k = sym z
+    go (inl z) Right k = true_false (k.0 refl) (e ∙ ap (λ (n : ℕ). eqb n 1) z)
+    go (inr o) Left k = absurd (let x = k.1 (e ∙ ap (λ (n : ℕ). eqb n 1) o) in omega arith)
+    go (inr o) Right k = sym o
 
 module _ (B F : ℕ) (links nodes : List ℕ) (P : Packs B links nodes) (s i w e : ℕ) (from : 1 ≤ i) (to : i < B) (at : w ≡ get_or nodes (i - 1) 0) where
   position_at : position_of B (unpacked links nodes) i ≡ position_in w

@@ -75,9 +75,18 @@ module _ (sigs links : List ℕ) where
   pub fits_of : (tables_fit (asks_tables sigs links) ≡ true) ↔ FitsAt (length sigs) (width_of links) sigs links
   fits_of = (fits_true, true_fits)
 
-  -- an answer that is the test's says the fact
-  pub fit_said : {r : Bool} → r ≡ tables_fit (asks_tables sigs links) → (r ≡ tables_fit (asks_tables sigs links)) × (r ≡ true → FitsAt (length sigs) (width_of links) sigs links)
-  fit_said e = (e, λ t. fits_true (sym e ∙ t))
+  -- the question's answer, by a yes to both parts or a no to one
+  pub asked_yes : (asks_tables sigs links).lengths ≡ true → (asks_tables sigs links).words ≡ true → 0 ≡ ask 4 (tables_fit (asks_tables sigs links)) 0
+  unfolding ask
+  asked_yes e h = rw (e, h)
+
+  pub asked_lengths : (asks_tables sigs links).lengths ≡ false → 4 ≡ ask 4 (tables_fit (asks_tables sigs links)) 0
+  unfolding ask
+  asked_lengths e = rw e
+
+  pub asked_words : (asks_tables sigs links).lengths ≡ true → (asks_tables sigs links).words ≡ false → 4 ≡ ask 4 (tables_fit (asks_tables sigs links)) 0
+  unfolding ask
+  asked_words e h = rw (e, h)
 
 -- Question 4 of packed tables comes first: a no to the lengths p or to the tables t gives 4, a yes to both leaves the later questions.
 pub packed_no : (p t : Bool) (later : ℕ) → (p && t) ≡ false → (t ≡ false → later ≡ 4) → ask 4 p later ≡ 4
@@ -108,15 +117,22 @@ module _ (sigs links nodes : List ℕ) where
       let l = q.2 in
       rw (packs_lengths e, row_word links nodes 0 (omega arith), row_word links nodes 1 (omega arith))
 
-  abbrev Said : Bool → Type 0
-  Said r = (r ≡ (packed_fit sigs links nodes && tables_fit (asks_tables sigs U))) × (r ≡ true → FitsPacked sigs links nodes)
+  -- the question's answer, by a yes to both parts or a no to one, and what a yes says
+  abbrev Asked : ℕ → Type 0
+  Asked n = n ≡ ask 4 (packed_fit sigs links nodes && tables_fit (asks_tables sigs U)) 0
 
-  said : {r : Bool} → r ≡ (packed_fit sigs links nodes && tables_fit (asks_tables sigs U)) → Said r
-  said e = (e, λ t. let q = both {t = packed_fit sigs links nodes} (sym e ∙ t) in record { packs = packs q.0; fits = fits_true sigs U q.1 })
-
-  pub said_lengths : packed_fit sigs links nodes ≡ false → Said false
-  said_lengths e = said (ap (λ (t : Bool). t && tables_fit (asks_tables sigs U)) (sym e))
+  pub packed_asked_lengths : packed_fit sigs links nodes ≡ false → Asked 4
+  unfolding ask
+  packed_asked_lengths e = rw e
 
   module _ (e : packed_fit sigs links nodes ≡ true) where
-    pub said_words : {r : Bool} → r ≡ (width_fits (width_of links) && eqb (told_blocks links) (length sigs)) → Said r
-    said_words h = said (h ∙ sym (packs_words e) ∙ ap (λ (t : Bool). t && tables_fit (asks_tables sigs U)) (sym e))
+    pub packed_asked_yes : (width_fits (width_of links) && eqb (told_blocks links) (length sigs)) ≡ true → Asked 0
+    unfolding ask
+    packed_asked_yes h = rw (e, packs_words e, h)
+
+    pub packed_asked_words : (width_fits (width_of links) && eqb (told_blocks links) (length sigs)) ≡ false → Asked 4
+    unfolding ask
+    packed_asked_words h = rw (e, packs_words e, h)
+
+    pub packed_said : (width_fits (width_of links) && eqb (told_blocks links) (length sigs)) ≡ true → FitsPacked sigs links nodes
+    packed_said h = record { packs = packs e; fits = fits_true sigs U (packs_words e ∙ h) }

@@ -11,7 +11,6 @@ pub mod Graft
 pub mod After
 pub mod Walks
 pub mod Edges
-pub mod Addressed
 pub mod Entries
 pub mod Distinct
 pub mod Unique
@@ -20,4 +19,7 @@ pub mod Stored
 pub mod Spelled
 pub mod Freeing
 pub mod Stays
+pub mod Lending
+pub mod Reached
 pub mod Either
+pub mod Held

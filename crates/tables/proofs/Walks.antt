@@ -133,13 +133,3 @@ sound_fits {B} {F} {sigs} {links} S s = go S.tree S.holds S.placed
     go : (t : Rooted) → HoldsRoot B links (root_of links) t → PlacedRoot F sigs links t → WalkFits B F links s F root_at
     go none q pl = at_none F q
     go (some t) q pl = walk_fits B F links s sigs [] t F root_at q pl
-
--- an unfit walk holds nothing
-pub nothing_held : (B : ℕ) (links : List ℕ) (r p : ℕ) → HeldBy B links 0 0 r p
-nothing_held B links r p = record { here = λ n. absurd (n refl); node = λ n. absurd (n refl) }
-
-pub lost_at : (B F : ℕ) (links : List ℕ) (s link above r p : ℕ) → link ≡ 0 → above ≡ 0 → 0 < links_of B → Ends B F links s 0 0
-    → Ends B F links s link above × (((link < links_of B) × (above < links_of B)) × HeldBy B links link above r p)
-lost_at B F links s link above r p e f h E =
-    let T : ℕ → ℕ → Type 0 = λ a b. Ends B F links s a b × (((a < links_of B) × (b < links_of B)) × HeldBy B links a b r p) in
-    subst (λ (a : ℕ). T a above) (sym e) (subst (λ (b : ℕ). T 0 b) (sym f) (E, ((h, h), nothing_held B links r p)))

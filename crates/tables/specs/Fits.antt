@@ -1,8 +1,9 @@
--- Question 4's yes to packed tables.
+-- Question 4's yes to tables, and what the two forms of the tables have in common.
 -- Assumes nothing.
-use Rattle.std.specs.Prelude.{ℕ, List, length, ◌≡◌, ◌⊎◌}
+use Rattle.std.specs.Prelude.{ℕ, List, length, ◌≡◌, ◌≤◌, ◌⊎◌}
+use Rattle.model.specs.Limits.{widest, most_blocks}
 use Rattle.model.specs.Tables.{links_of, width_of, position_of, left_of, right_of}
-use Rattle.model.specs.Packed.{unpacked, Packs}
+use Rattle.model.specs.Packed.{rows_of, unpacked, Packs}
 use Rattle.model.specs.Sound.{FitsAt}
 
 -- the slices are as long as they should be, and the tables that they hold fit
@@ -10,9 +11,21 @@ pub record FitsPacked (sigs links nodes : List ℕ) : Type 0 where
   pub packs : Packs (length sigs) links nodes
   pub fits : FitsAt (length sigs) (width_of (unpacked links nodes)) sigs (unpacked links nodes)
 
+-- the five words and the rows stand inside the links, and the width is one
+pub record RowsFit (sigs links : List ℕ) : Type 0 where
+  pub blocks_from : 1 ≤ length sigs
+  pub blocks_to : length sigs ≤ most_blocks
+  pub rows_long : rows_of (length sigs) ≤ length links
+  pub width_to : width_of links ≤ widest
+
 -- the slices are packed ones, or the links of 5 * B + 2 words with no nodes beside them: either way they hold such tables
 abbrev pub Forms : ℕ → List ℕ → List ℕ → Type 0
 Forms B links nodes = Packs B links nodes ⊎ ((length links ≡ links_of B) × (length nodes ≡ 0))
+
+-- tables in either form, of which question 4 says yes
+pub record Fits (sigs links nodes : List ℕ) : Type 0 where
+  pub form : Forms (length sigs) links nodes
+  pub rows : RowsFit sigs links
 
 -- a node's position and its two references
 pub record PartsOf (B : ℕ) (links : List ℕ) (i p l r : ℕ) : Type 0 where

@@ -1,3 +1,9 @@
 pub mod Walk
 pub mod Fits
 pub mod Nodes
+pub mod Sides
+pub mod Places
+pub mod Changed
+pub mod Walked
+pub mod Forms
+pub mod Held

@@ -11,6 +11,11 @@ use Rattle.model.specs.Withdraw.{parent_of}
 abbrev pub NodeFits : ℕ → ℕ → List ℕ → ℕ → Type 0
 NodeFits B F links i = (i < B) × (1 ≤ position_of B links i) × (position_of B links i ≤ F)
 
+-- the address of the edge of node i that s takes, that of the root's reference for 0, which is no node
+abbrev pub below_at : ℕ → ℕ → List ℕ → ℕ → ℕ → ℕ
+below_at B F links s zero = root_at
+below_at B F links s (suc i) = edge_at B F links s (suc i)
+
 -- e is the side of node i that s takes, 0 or 1; more where the node is unfit
 pub record EdgeOf (B F : ℕ) (links : List ℕ) (s i e : ℕ) : Type 0 where
   pub fit : NodeFits B F links i → e ≤ 1

@@ -7,16 +7,13 @@ ghost use Rattle.model.specs.Packed.{unpacked, Packs};
 
 use crate::nodes::set_node;
 
-// Node i where there is one, else 0.
+// Node i where there is one, else 0: a word of the tables, in which document 01 has 0 for none.
 pub fn free_from(blocks: usize, i: usize) -> u32
     requires { blocks ≤ 65535 }
     ensures value { result ≡ free_from blocks i }
     ensures upper_bound { result ≤ blocks }
 {
-    if i < blocks {
-        return i as u32;
-    }
-    0
+    if i < blocks { i as u32 } else { 0 }
 }
 
 // Makes the nodes from `first` to the last free, beside any links. The last one stands after the loop, which then has no choice in it.
@@ -24,13 +21,11 @@ pub fn free_rest(nodes: &mut [u64], blocks: usize, first: usize)
     requires { (1 ≤ first) × (first ≤ blocks) × (blocks ≤ 65535) × (length nodes.old + 1 ≡ blocks) }
     ensures { (links : List ℕ) → Packs blocks links nodes.old → unpacked links nodes.new ≡ sets (unpacked links nodes.old) (position_at blocks first) (free_nodes (blocks - first) first) }
 {
-    let mut i = first;
-    while i + 1 < blocks {
-        set_node(nodes, i, 0, free_from(blocks, i + 1), 0);
-        i += 1;
+    let last = blocks - 1;
+    for node in first..last {
+        set_node(nodes, node, 0, node as u32 + 1, 0);
     }
-    if i < blocks {
-        set_node(nodes, i, 0, 0, 0);
-        return;
+    if first <= last {
+        set_node(nodes, last, 0, 0, 0);
     }
 }

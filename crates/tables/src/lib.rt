@@ -2,19 +2,23 @@
 #![tactic(auto)]
 
 pub mod address;
-pub mod forms;
+mod form;
 pub mod free;
 pub mod front;
+mod lent;
 pub mod nodes;
-pub mod rows;
-pub mod stores;
+mod packed;
+mod place;
+mod reading;
+mod rows;
+mod side;
+mod unpacked;
 pub mod walk;
 
-ghost use Rattle.std.specs.Prelude.{◌≡◌};
-
-// A word of the links as an index.
-pub fn wide(word: u32) -> usize
-    ensures { result ≡ word }
-{
-    word as usize
-}
+pub use form::Form;
+pub use lent::TablesMut;
+pub use packed::Tables;
+pub use place::Place;
+pub use rows::Rows;
+pub use side::Side;
+pub use unpacked::Unpacked;

@@ -1,7 +1,9 @@
 // The word of a node, 1 to B - 1: position times 2^34, plus left times 2^17, plus right. The only place in code that knows it.
-ghost use Rattle.std.specs.Prelude.{◌≡◌, ◌-◌, ◌^◌, ◌≤◌, ◌<◌, length, get_or, set};
-ghost use Rattle.tables.specs.Nodes.{sides_word};
-ghost use Rattle.model.specs.Packed.{node_word, position_in, left_in, right_in, with_part};
+ghost use Rattle.std.specs.Prelude.{◌≡◌, ◌+◌, ◌-◌, ◌^◌, ◌≤◌, ◌<◌, length, get_or, set};
+ghost use Rattle.model.specs.Packed.{node_word, position_in, left_in, right_in, part_in, with_part};
+ghost use Rattle.tables.specs.Sides.{side_number};
+
+use crate::side::Side;
 
 // what a left reference and a position are counted in
 const LEFT: u64 = 131072;
@@ -48,18 +50,44 @@ pub fn join(position: u32, left: u32, right: u32) -> u64
     position as u64 * POSITION + left as u64 * LEFT + right as u64
 }
 
-// The word with one part changed.
-pub fn with_part(word: u64, part: usize, value: u32) -> u64
-    requires { value < 2 ^ 17 }
-    ensures { result ≡ with_part word part value }
+// What a node says: the position that it tests, and its two references.
+#[derive(Clone, Copy, Debug, PartialEq, Eq)]
+pub struct Parts {
+    pub position: u32,
+    pub left: u32,
+    pub right: u32,
+}
+
+// The parts of the word.
+pub fn parts_in(word: u64) -> Parts
+    ensures { (result.position ≡ position_in word) × (result.left ≡ left_in word) × (result.right ≡ right_in word) }
 {
-    if part == 0 {
-        return join(value, left_in(word), right_in(word));
+    Parts {
+        position: position_in(word),
+        left: left_in(word),
+        right: right_in(word),
     }
-    if part == 1 {
-        return join(position_in(word), value, right_in(word));
+}
+
+// The reference on the side.
+pub fn side_in(word: u64, side: Side) -> u32
+    ensures { result ≡ part_in word (1 + side_number side) }
+{
+    match side {
+        Side::Left => left_in(word),
+        Side::Right => right_in(word),
     }
-    join(position_in(word), left_in(word), value)
+}
+
+// The word with another reference on the side.
+pub fn with_side(word: u64, side: Side, reference: u32) -> u64
+    requires { reference < 2 ^ 17 }
+    ensures { result ≡ with_part word (1 + side_number side) reference }
+{
+    match side {
+        Side::Left => join(position_in(word), reference, right_in(word)),
+        Side::Right => join(position_in(word), left_in(word), reference),
+    }
 }
 
 // Sets the whole word of the node.
@@ -69,17 +97,4 @@ pub fn set_node(nodes: &mut [u64], node: usize, position: u32, left: u32, right:
     ensures { nodes.new ≡ set nodes.old (node - 1) (node_word position left right) }
 {
     nodes[node - 1] = join(position, left, right);
-}
-
-// Sets the whole word of the node, whose side (0 left, 1 right) becomes `here`, and the other side `there`.
-pub fn set_sides(nodes: &mut [u64], node: usize, position: u32, side: u32, here: u32, there: u32)
-    requires le_node { (1 ≤ node) × (node ≤ length nodes.old) }
-    requires position_bound { (position < 2 ^ 30) × (here < 2 ^ 17) × (there < 2 ^ 17) }
-    ensures { nodes.new ≡ set nodes.old (node - 1) (sides_word position side here there) }
-{
-    if side == 0 {
-        set_node(nodes, node, position, here, there);
-        return;
-    }
-    set_node(nodes, node, position, there, here);
 }

@@ -1,45 +1,77 @@
-// The row of a block: the next block on its chain and its filed word; and its signature.
-ghost use Rattle.std.specs.Prelude.{◌≡◌, ◌≤◌, ◌<◌, length, set};
-ghost use Rattle.model.specs.Tables.{next_at, filed_at, next_of, filed_of, signature_of};
+// What either form of the tables has in front: the five words and the rows of the blocks, and beside them the blocks' signatures.
+ghost use Rattle.std.specs.Prelude.{◌≡◌, ◌&&◌, ◌≤◌, leb, length};
+ghost use Rattle.model.specs.Limits.{widest};
+ghost use Rattle.model.specs.Tables.{width_of, root_of, free_of, count_of, next_of, filed_of, signature_of};
+ghost use Rattle.tables.specs.Fits.{RowsFit};
 
-// The next block on the block's chain, 0 at its end.
-pub fn next_of(links: &[u32], block: usize) -> u32
-    requires { filed_at block < length links.now }
-    ensures { result ≡ next_of links.now block }
-{
-    links[2 * block + 3]
+use crate::address;
+
+// The signatures, and links that begin with the five words and the rows.
+#[derive(Clone, Copy)]
+pub struct Rows<'a> {
+    pub signatures: &'a [u64],
+    pub links: &'a [u32],
+    pub ghost fit: { RowsFit signatures.now links.now },
 }
 
-// Is the block filed? 1 on sound tables, 0 where it is not.
-pub fn filed_of(links: &[u32], block: usize) -> u32
-    requires { filed_at block < length links.now }
-    ensures { result ≡ filed_of links.now block }
-{
-    links[2 * block + 4]
-}
+impl Rows<'_> {
+    // The number of blocks.
+    pub fn blocks(&self) -> usize
+        ensures { result ≡ length self.now.signatures.now }
+    {
+        self.signatures.len()
+    }
 
-// Sets the next block.
-pub fn set_next(links: &mut [u32], block: usize, next: u32)
-    requires { filed_at block < length links.old }
-    ensures { links.new ≡ set links.old (next_at block) next }
-{
-    let row = 2 * block;
-    links[row + 3] = next;
-}
+    // The width of the signatures.
+    pub fn width(&self) -> u32
+        ensures value { result ≡ width_of self.now.links.now }
+        ensures bound { result ≤ widest }
+    {
+        self.links[address::WIDTH]
+    }
 
-// Sets the filed word.
-pub fn set_filed(links: &mut [u32], block: usize, filed: u32)
-    requires { filed_at block < length links.old }
-    ensures { links.new ≡ set links.old (filed_at block) filed }
-{
-    let row = 2 * block;
-    links[row + 4] = filed;
-}
+    // The reference to the tree.
+    pub fn root(&self) -> u32
+        ensures { result ≡ root_of self.now.links.now }
+    {
+        self.links[address::ROOT]
+    }
 
-// The block's signature, at index block - 1.
-pub fn signature_of(signatures: &[u64], block: usize) -> u64
-    requires { (1 ≤ block) × (block ≤ length signatures.now) }
-    ensures { result ≡ signature_of signatures.now block }
-{
-    signatures[block - 1]
+    // The first free node.
+    pub fn first_free(&self) -> u32
+        ensures { result ≡ free_of self.now.links.now }
+    {
+        self.links[address::FREE]
+    }
+
+    // The count of filed blocks.
+    pub fn count(&self) -> u32
+        ensures { result ≡ count_of self.now.links.now }
+    {
+        self.links[address::COUNT]
+    }
+
+    // The next block on the block's chain, 0 at its end: the word, as document 01 has it.
+    pub fn next_of(&self, block: usize) -> u32
+        requires { (1 ≤ block) × (block ≤ length self.now.signatures.now) }
+        ensures { result ≡ next_of self.now.links.now block }
+    {
+        self.links[2 * block + 3]
+    }
+
+    // Is the block filed? The word, as document 01 has it: 1 on sound tables, 0 where it is not.
+    pub fn filed_of(&self, block: usize) -> u32
+        requires { (1 ≤ block) × (block ≤ length self.now.signatures.now) }
+        ensures { result ≡ filed_of self.now.links.now block }
+    {
+        self.links[2 * block + 4]
+    }
+
+    // The block's signature, at index block - 1.
+    pub fn signature_of(&self, block: usize) -> u64
+        requires { (1 ≤ block) × (block ≤ length self.now.signatures.now) }
+        ensures { result ≡ signature_of self.now.signatures.now block }
+    {
+        self.signatures[block - 1]
+    }
 }

@@ -1,105 +1,100 @@
 // The walk by a signature's bits, from the root to a reference that is no node. Ends on any tables: it passes at most as many nodes as
 // there are positions.
-ghost use Rattle.std.specs.Prelude.{◌+◌, ◌≤◌, ◌<◌, ◌≡◌};
-ghost use Rattle.model.specs.Tables.{links_of};
-ghost use Rattle.model.specs.Packed.{part_in, unpacked, Packs};
-ghost use Rattle.tables.specs.Walk.{EdgeIn, Ends, HeldBy};
+ghost use Rattle.std.specs.Prelude.{◌≤◌, ◌<◌, ◌≡◌, ◌≢◌, length, IfSome};
+ghost use Rattle.model.specs.Tables.{width_of};
+ghost use Rattle.model.specs.Packed.{unpacked};
+ghost use Rattle.tables.specs.Sides.{edge_number};
+ghost use Rattle.tables.specs.Places.{address_of, IsPlace};
+ghost use Rattle.tables.specs.Walk.{NodeFits, EdgeIn, Ends, HeldBy, below_at};
+ghost use Rattle.tables.specs.Walked.{IsInside, link_of, above_of, reference_of, parent_of};
 
-use crate::address;
-use crate::nodes::{left_in, position_in, right_in, word_of};
+use crate::nodes;
+use crate::packed::Tables;
+use crate::place::Place;
+use crate::side::Side;
 
-// Where a walk ends: the address of the reference reached, 0 on an unfit node, and the reference; and the address of its parent's
-// reference, 0 where there is none, and the parent's node number.
-#[derive(Clone, Copy)]
+// A node, and where the reference to it stands.
+#[derive(Clone, Copy, Debug, PartialEq, Eq)]
+pub struct Parent {
+    pub place: Place,
+    pub node: usize,
+}
+
+// Where a walk ends: the place of the reference reached, and the reference; and the node that it came from, if it passed any.
+#[derive(Clone, Copy, Debug, PartialEq, Eq)]
 pub struct Walked {
-    pub link: usize,
-    pub above: usize,
+    pub place: Place,
     pub reference: u32,
-    pub parent: usize,
+    pub parent: Option<Parent>,
 }
 
-// A walk that met an unfit node.
-fn lost() -> Walked
-    ensures { (result.link ≡ 0) × (result.above ≡ 0) }
-{
-    Walked {
-        link: 0,
-        above: 0,
-        reference: 0,
-        parent: 0,
-    }
-}
-
-// no side of a node
-const NO_SIDE: u32 = 2;
-
-// The side of the node of this word that the signature takes, 0 left or 1 right; 2 where its position is none.
-pub fn edge_in(word: u64, width: u32, signature: u64) -> u32
+// The side of the node of this word that the signature takes, where the node's position is one.
+pub fn edge_in(word: u64, width: u32, signature: u64) -> Option<Side>
     requires { width ≤ 64 }
-    ensures { EdgeIn width word signature result }
+    ensures { EdgeIn width word signature (edge_number result) }
 {
-    let position = position_in(word);
-    if position < 1 {
-        return NO_SIDE;
+    let position = nodes::position_in(word);
+    if position < 1 || width < position {
+        return None;
     }
-    if width < position {
-        return NO_SIDE;
-    }
-    signature::bit(signature, width, position)
+    Some(Side::of(signature::is_set(signature, width, position)))
 }
 
-// The reference on a side of the node of this word: 0 for left, 1 for right.
-pub fn side_in(word: u64, side: u32) -> u32
-    requires { side ≤ 1 }
-    ensures { result ≡ part_in word (1 + side) }
+// The place that the signature takes below the node, or the root below none, which is 0 as in the tables.
+fn place_below(tables: &Tables, signature: u64, node: usize) -> Place
+    requires { node ≢ 0 → NodeFits (length tables.now.rows.signatures.now) (width_of tables.now.rows.links.now) (unpacked tables.now.rows.links.now tables.now.nodes.now) node }
+    ensures address { address_of (length tables.now.rows.signatures.now) result ≡ below_at (length tables.now.rows.signatures.now) (width_of tables.now.rows.links.now) (unpacked tables.now.rows.links.now tables.now.nodes.now) signature node }
+    ensures inside { IsPlace (length tables.now.rows.signatures.now) result }
 {
-    if side == 0 {
-        return left_in(word);
+    if node == 0 {
+        return Place::Root;
     }
-    right_in(word)
+    let position = nodes::position_in(nodes::word_of(tables.nodes, node));
+    let side = Side::of(signature::is_set(signature, tables.rows.width(), position));
+    Place::Below { node, side }
 }
 
-// Walks from the root.
-pub fn walk(links: &[u32], nodes: &[u64], blocks: usize, width: u32, signature: u64) -> Walked
-    requires { (blocks ≤ 65535) × (width ≤ 64) × Packs blocks links.now nodes.now }
-    ensures ends { Ends blocks width (unpacked links.now nodes.now) signature result.link result.above }
-    ensures inside { (result.link < links_of blocks) × (result.above < links_of blocks) }
-    ensures held { HeldBy blocks (unpacked links.now nodes.now) result.link result.above result.reference result.parent }
+// Walks from the root; none where it meets an unfit node. The loop keeps the numbers of the last two nodes, 0 for none: it takes a tenth
+// longer where it keeps their places.
+pub fn walk(tables: &Tables, signature: u64) -> Option<Walked>
+    ensures ends { Ends (length tables.now.rows.signatures.now) (width_of tables.now.rows.links.now) (unpacked tables.now.rows.links.now tables.now.nodes.now) signature (link_of (length tables.now.rows.signatures.now) result) (above_of (length tables.now.rows.signatures.now) result) }
+    ensures taken { link_of (length tables.now.rows.signatures.now) result ≢ 0 → link_of (length tables.now.rows.signatures.now) result ≡ below_at (length tables.now.rows.signatures.now) (width_of tables.now.rows.links.now) (unpacked tables.now.rows.links.now tables.now.nodes.now) signature (parent_of result) }
+    ensures inside { IfSome result (IsInside (length tables.now.rows.signatures.now)) }
+    ensures held { HeldBy (length tables.now.rows.signatures.now) (unpacked tables.now.rows.links.now tables.now.nodes.now) (link_of (length tables.now.rows.signatures.now) result) (above_of (length tables.now.rows.signatures.now) result) (reference_of result) (parent_of result) }
 {
-    let mut link: usize = address::ROOT;
-    let mut above: usize = 0;
-    let mut parent: usize = 0;
-    let mut reference = links[address::ROOT];
-    let mut untested = width;
-    while 0 < untested {
-        let at = crate::wide(reference);
+    let blocks = tables.rows.blocks();
+    let width = tables.rows.width();
+    let mut reference = tables.rows.root();
+    let mut node = 0;
+    let mut above = 0;
+    for _ in 0..width {
+        let at = reference as usize;
         if at <= blocks {
-            return Walked {
-                link: link,
-                above: above,
-                reference: reference,
-                parent: parent,
-            };
+            break;
         }
-        let node = at - blocks;
-        if blocks <= node {
-            return lost();
+        let next = at - blocks;
+        if blocks <= next {
+            return None;
         }
-        let word = word_of(nodes, node);
-        let side = edge_in(word, width, signature);
-        if 1 < side {
-            return lost();
-        }
-        above = link;
-        parent = node;
-        link = 2 * blocks + 3 * node + (3 + side as usize);
-        reference = side_in(word, side);
-        untested -= 1;
+        let word = nodes::word_of(tables.nodes, next);
+        let side = edge_in(word, width, signature)?;
+        reference = nodes::side_in(word, side);
+        above = node;
+        node = next;
     }
-    Walked {
-        link: link,
-        above: above,
-        reference: reference,
-        parent: parent,
+    if node == 0 {
+        return Some(Walked {
+            place: Place::Root,
+            reference,
+            parent: None,
+        });
     }
+    Some(Walked {
+        place: place_below(tables, signature, node),
+        reference,
+        parent: Some(Parent {
+            place: place_below(tables, signature, above),
+            node,
+        }),
+    })
 }

@@ -3,7 +3,7 @@
 -- Assumes nothing.
 use Prim.Native.Nat.{ℕ, zero, suc, ◌-◌, ◌≤◌, ◌<◌}
 use native.Mathlib.Omega.{arith}
-use mathlib.Core.Path.{◌≡◌, refl, sym, ◌∙◌, subst}
+use mathlib.Core.Path.{◌≡◌, sym, ◌∙◌, ap, subst}
 use mathlib.Core.Logic.{◌⊎◌, inl, inr, ◌≢◌}
 use mathlib.Core.List.Memᴰ
 use mathlib.Core.List.{List, [], ◌∷◌, Memᴰ}
@@ -28,8 +28,8 @@ more B L b c [] m q = absurd (Memᴰ.not-nil m)
 more B L b c (d ∷ ds) m q = let e = q.0 in let f = q.1 in let g = q.2 in omega arith
 
 module _ {B : ℕ} {L : List ℕ} {b : ℕ} where
-  pub seek : {h : ℕ} (cs : List ℕ) → Chain B L h cs → Memᴰ b cs → Sought B L b (block_before L b B h) B h
-  seek {h} cs q m = record { rest = cs; chain = q; meets = m; short = chain_short B L h cs q; same = refl }
+  pub seek : {h : ℕ} (n : ℕ) → n ≡ B → (cs : List ℕ) → Chain B L h cs → Memᴰ b cs → Sought B L b (block_before L b B h) n h
+  seek {h} n e cs q m = record { rest = cs; chain = q; meets = m; short = omega (arith, e, chain_short B L h cs q); same = ap (λ (k : ℕ). block_before L b k h) e }
 
   pub some_left : {a n c : ℕ} → Sought B L b a n c → 0 < n
   some_left {a} {n} {c} K = let h = (more B L b c K.rest K.meets K.chain).0 in omega (arith, K.short)

@@ -2,10 +2,10 @@ pub mod Chains
 pub mod Cut
 pub mod Over
 pub mod Found
+pub mod Asked
 pub mod Plans
-pub mod Promised
 pub mod Freed
 pub mod Withdrawing
 pub mod Raising
 pub mod Withdrawn
-pub mod Packed
+pub mod Promised

@@ -1,51 +1,92 @@
--- The promise, from the plan: on sound tables the plan is the definition's, so there is one; where there is none, nothing is stored.
+-- The promise of withdraw, by what its code finds: question 4's no, or a plan carried out.
 -- Assumes nothing.
 use Prim.Native.Nat.{ℕ, ◌-◌}
-use mathlib.Core.Path.{◌≡◌, refl, sym, ◌∙◌, ap}
-use mathlib.Core.Logic.{◌≢◌, inl, inr}
-use mathlib.Core.Bool.{true, false}
-use mathlib.Core.List.{List, []}
-use lib.ListN.{length, length-set}
+use mathlib.Core.Path.{◌≡◌, refl, sym, ◌∙◌, ap, ap₂, subst}
+use mathlib.Core.Logic.{inl, ◌≢◌}
+use mathlib.Core.Bool.{Bool, true, false, ◌&&◌}
+use mathlib.Core.List.{List}
+use lib.ListN.{length, set, length-set}
+use borrow.Author.Rules.{rules}
+use Rattle.std.specs.Prelude.{Option, Some}
+use Rattle.answers.specs.declared.refusal.Refusal.{Refusal}
+use Rattle.answers.specs.Answers.{number_of}
+use Rattle.model.specs.Packed.{unpacked}
 use Rattle.model.specs.Stores.{stores}
-use Rattle.model.specs.Withdraw.{withdraw_signatures, withdraw_links}
-use Rattle.model.specs.Questions.{asks_tables, withdraw_refusal}
-use Rattle.model.specs.Promises.{unsound, WithdrawPromise}
-use Rattle.model.proofs.Asking.{true_false}
+use Rattle.model.specs.Withdraw.{withdraw_links}
+use Rattle.model.specs.Questions.{ask, asks_tables, tables_fit, withdraw_refusal}
+use Rattle.model.specs.Promises.{WithdrawPromise}
+use Rattle.model.specs.PackedPromises.{packed_fit, PackedWithdraw}
+use Rattle.model.proofs.Asking.{true_false, both, ask_zero}
 use Rattle.model.proofs.Stores.{length_stores}
-use Rattle.withdraw.specs.Asking.{Withdraws}
-use Rattle.withdraw.specs.Plan.{is_plan, plan_stores, PlansRight}
+use Rattle.tables.specs.declared.packed.Tables.{Tables}
+use Rattle.tables.specs.declared.lent.TablesMut.{TablesMut}
+use Rattle.tables.specs.Changed.{links_in, blocks_in, IsRead, Becomes}
+use Rattle.tables.proofs.Stays.{changes_stay}
+use Rattle.tables.specs.Held.{held}
+use Rattle.withdraw.specs.Plan.{plan_stores, PlansRight}
 use Rattle.withdraw.specs.declared.plan.Plan.{Plan}
-use Rattle.withdraw.specs.declared.plan.Plan.TheVariants.{Unfit, Relink, Raise}
+use Rattle.withdraw.proofs.Asked.{refuses_4}
 
--- without a plan there are no stores
-no_stores : (B : ℕ) (L : List ℕ) (b : ℕ) (p : Plan) → is_plan p ≡ false → plan_stores B L b p ≡ []
-no_stores B L b Unfit e = refl
-no_stores B L b (Relink at v) e = true_false refl e
-no_stores B L b (Raise above i r) e = true_false refl e
+pub some_number : (e : Refusal) → number_of e ≢ 0
+some_number e = search rules
 
-module _ (sigs L : List ℕ) (b : ℕ) (p : Plan) (right : PlansRight sigs L b p) (L' : List ℕ) (made : L' ≡ stores L (plan_stores (length sigs) L b p)) where
-  pub gives_up : is_plan p ≡ false → Withdraws sigs L b unsound sigs L'
-  gives_up f = record {
-    refused = λ n. absurd (n refl);
-    done = λ _ S. true_false (right S).is f;
-    anyway = λ _. inr (refl, refl, made ∙ ap (stores L) (no_stores (length sigs) L b p f));
+module _ (t : TablesMut) (b : ℕ) where
+  -- question 4 and the later ones
+  abbrev four : Bool
+  four = packed_fit t.signatures.now t.links.now t.nodes.now && tables_fit (asks_tables t.signatures.now (links_in t))
+
+  abbrev later : ℕ
+  later = withdraw_refusal (asks_tables t.signatures.now (links_in t)) b
+
+  -- nothing is stored
+  abbrev Refused : ℕ → Type 0
+  Refused r = PackedWithdraw t.signatures.now t.links.now t.nodes.now b r t.signatures.now t.links.now t.nodes.now
+
+  refused : (r : ℕ) → r ≢ 0 → (packed_fit t.signatures.now t.links.now t.nodes.now ≡ false → r ≡ 4) → (packed_fit t.signatures.now t.links.now t.nodes.now ≡ true → r ≡ later) → Refused r
+  refused r n four_is later_is = record {
+    unfit = λ e. (four_is e, (refl, refl, refl));
+    asked = λ e. (
+      record { refused = λ _. (later_is e, refl, refl); done = λ z. absurd (n (later_is e ∙ z)); anyway = λ z. absurd (n (later_is e ∙ z)) },
+      record { rows_long = refl; nodes_long = refl; untouched = λ _. (refl, refl) },
+    );
   }
 
-  pub carries_out : is_plan p ≡ true → Withdraws sigs L b 0 (withdraw_signatures sigs b) L'
-  unfolding withdraw_links
-  carries_out f = record {
-    refused = λ n. absurd (n refl);
-    done = λ _ S. (refl, refl, made ∙ ap (stores L) (right S).does);
-    anyway = λ _. inl (refl, length-set sigs (b - 1) 0, ap length made ∙ length_stores L (plan_stores (length sigs) L b p));
-  }
+  -- question 4's no
+  pub refused_first : (r : ℕ) → r ≢ 0 → r ≡ ask 4 four 0 → Refused r
+  unfolding ask
+  refused_first r n e = go (packed_fit t.signatures.now t.links.now t.nodes.now) refl (tables_fit (asks_tables t.signatures.now (links_in t))) refl
+    where
+      go : (p : Bool) → packed_fit t.signatures.now t.links.now t.nodes.now ≡ p → (f : Bool) → tables_fit (asks_tables t.signatures.now (links_in t)) ≡ f → Refused r
+      go false g f h = let z : four ≡ false = rw g in refused r n (λ _. e ∙ ap (λ (x : Bool). ask 4 x 0) z) (λ y. true_false y g)
+      go true g false h = let z : four ≡ false = rw (g, h) in refused r n (λ y. true_false g y) (λ _. e ∙ ap (λ (x : Bool). ask 4 x 0) z ∙ sym (refuses_4 t.signatures.now (links_in t) b h))
+      go true g true h = let z : four ≡ true = rw (g, h) in absurd (n (e ∙ ap (λ (x : Bool). ask 4 x 0) z))
 
-module _ (sigs L : List ℕ) (b r : ℕ) (first : r ≡ withdraw_refusal (asks_tables sigs L) b) where
-  pub refuses : r ≢ 0 → WithdrawPromise sigs L b r sigs L
-  refuses n = record {
-    refused = λ _. (first, refl, refl);
-    done = λ z S. absurd (n (first ∙ z));
-    anyway = λ z. absurd (n (first ∙ z));
-  }
+  -- a plan is carried out, and the signature cleared
+  module _ (yes : 0 ≡ ask 4 four 0) (r : Tables) (is : IsRead t r) (none : 0 ≡ withdraw_refusal (asks_tables r.rows.signatures.now (held r)) b) (p : Option Plan)
+      (right : PlansRight r.rows.signatures.now (held r) b p) (o : Plan) (e : p ≡ Some o) (t' : TablesMut) (C : Becomes t t' (stores (links_in t) (plan_stores (blocks_in t) (links_in t) b (Some o)))) where
+    -- what is said of the tables read is said of those lent
+    on : (P : List ℕ → List ℕ → Type 0) → P r.rows.signatures.now (held r) → P t.signatures.now (links_in t)
+    on P x = subst (λ (l : List ℕ). P t.signatures.now l) (ap₂ unpacked is.1 is.2) (subst (λ (l : List ℕ). P l (held r)) is.0 x)
 
-  pub keeps : r ≡ 0 → (a : ℕ) (sigs' L' : List ℕ) → Withdraws sigs L b a sigs' L' → WithdrawPromise sigs L b a sigs' L'
-  keeps z a sigs' L' C = let e : withdraw_refusal (asks_tables sigs L) b ≡ 0 = sym first ∙ z in rw e C
+    fit : packed_fit t.signatures.now t.links.now t.nodes.now ≡ true
+    fit = (both {t = packed_fit t.signatures.now t.links.now t.nodes.now} (ask_zero 3 four 0 (sym yes)).0).0
+
+    asked : later ≡ 0
+    asked = sym (on (λ (x y : List ℕ). 0 ≡ withdraw_refusal (asks_tables x y) b) none)
+
+    plan : PlansRight t.signatures.now (links_in t) b (Some o)
+    plan = on (λ (x y : List ℕ). PlansRight x y b (Some o)) (rw e at right)
+
+    promise : WithdrawPromise t.signatures.now (links_in t) b 0 (set t.signatures.now (b - 1) 0) (links_in t')
+    unfolding withdraw_links
+    promise = record {
+      refused = λ n. absurd (n asked);
+      done = λ _ S. (refl, refl, C.words ∙ ap (stores (links_in t)) (plan S).does);
+      anyway = λ _. inl (refl, length-set t.signatures.now (b - 1) 0, ap length C.words ∙ length_stores (links_in t) (plan_stores (blocks_in t) (links_in t) b (Some o)));
+    }
+
+    pub done : PackedWithdraw t.signatures.now t.links.now t.nodes.now b 0 (set t'.signatures.now (b - 1) 0) t'.links.now t'.nodes.now
+    done = rw C.signatures (record {
+      unfit = λ f. true_false fit f;
+      asked = λ _. (promise, changes_stay (blocks_in t) t.links.now t.nodes.now t'.links.now t'.nodes.now (rw (is.0, is.1, is.2) at r.fits.packs) C.links_long C.nodes_long _ _ _ _ _ _ promise);
+    })

@@ -5,35 +5,22 @@ mod ask;
 mod plan;
 mod store;
 
-ghost use Rattle.model.specs.Packed.{unpacked};
+ghost use Rattle.answers.specs.Answers.{answer_of};
 ghost use Rattle.model.specs.PackedPromises.{PackedWithdraw};
-ghost use Rattle.withdraw.specs.Asking.{PassedPacked, Withdraws};
+ghost use Rattle.tables.specs.Changed.{SameLoans};
 
-// question 11: are the tables sound?
-const UNSOUND: u32 = 11;
+use answers::Refusal;
+use tables::TablesMut;
 
-// Withdraws a block that no question refuses. With 11 nothing has been stored.
-fn carry_out(signatures: &mut [u64], links: &mut [u32], nodes: &mut [u64], block: u32) -> u32
-    requires { PassedPacked signatures.old links.old nodes.old block }
-    ensures { Withdraws signatures.old (unpacked links.old nodes.old) block result signatures.new (unpacked links.new nodes.new) }
+// Withdraws a filed block. All is read and checked before the first store, so 11 changes nothing.
+pub fn withdraw(tables: &mut TablesMut, block: u32) -> Result<(), Refusal>
+    ensures promise { PackedWithdraw tables.old.signatures.now tables.old.links.now tables.old.nodes.now block (answer_of result) tables.new.signatures.now tables.new.links.now tables.new.nodes.now }
+    ensures loans { SameLoans tables.old tables.new }
 {
-    let blocks = signatures.len();
-    let at = block as usize - 1;
-    let plan = plan::plan_block(signatures, links, nodes, block);
-    if !store::make(links, nodes, blocks, block, plan) {
-        return UNSOUND;
-    }
-    signatures[at] = 0;
-    0
-}
-
-// Withdraws a filed block.
-pub fn withdraw(signatures: &mut [u64], links: &mut [u32], nodes: &mut [u64], block: u32) -> u32
-    ensures { PackedWithdraw signatures.old links.old nodes.old block result signatures.new links.new nodes.new }
-{
-    let refused = ask::first_no(signatures, links, nodes, block);
-    if refused == 0 {
-        return carry_out(signatures, links, nodes, block);
-    }
-    refused
+    let read = tables.read()?;
+    ask::ask(&read, block)?;
+    let plan = plan::plan_block(&read, block).ok_or(Refusal::Unsound)?;
+    store::carry_out(tables, block, plan);
+    tables.signatures[block as usize - 1] = 0;
+    Ok(())
 }

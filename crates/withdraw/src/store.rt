@@ -1,78 +1,71 @@
-// The stores of a withdrawal, in the definition's order.
-ghost use Rattle.std.specs.Prelude.{◌≡◌, [], ◌∷◌, ◌^◌, ◌≤◌, ◌<◌, length, set};
-ghost use Rattle.model.specs.Tables.{links_of, free_of, count_of, filed_at};
-ghost use Rattle.model.specs.Packed.{unpacked, Packs};
+// The stores of a withdrawal, in the definition's order: one function for each kind of plan.
+ghost use Rattle.std.specs.Prelude.{◌≡◌, [], ◌∷◌, ◌^◌, ◌≤◌, ◌<◌, Some};
+ghost use Rattle.model.specs.Tables.{free_of, count_of, next_at};
 ghost use Rattle.model.specs.Stores.{stores, ◌↤◌};
 ghost use Rattle.model.specs.Withdraw.{withdrawal_stores, raise_stores};
-ghost use Rattle.withdraw.specs.Plan.{PlanFits, is_plan, plan_stores};
+ghost use Rattle.tables.specs.Changed.{links_in, blocks_in, PacksIn, Becomes};
+ghost use Rattle.tables.specs.Places.{address_of, IsPlace};
+ghost use Rattle.withdraw.specs.Plan.{PlanFits, plan_stores};
 
 use crate::plan::Plan;
-use tables::address;
+use tables::{Place, Side, TablesMut};
 
-// The block's row becomes 0, and the count falls by one.
-pub fn clear_row(links: &mut [u32], block: usize)
-    requires { (filed_at block < length links.old) × (1 ≤ count_of links.old) }
-    ensures { links.new ≡ stores links.old (withdrawal_stores links.old block []) }
+// The block's row becomes 0, and the count falls by one: the stores of every withdrawal.
+fn clear_row(tables: &mut TablesMut, block: usize)
+    requires { PacksIn tables.old × (block ≤ blocks_in tables.old) × (1 ≤ count_of (links_in tables.old)) }
+    ensures { Becomes tables.old tables.new (stores (links_in tables.old) (withdrawal_stores (links_in tables.old) block [])) }
 {
-    let count = links[address::COUNT];
-    tables::rows::set_next(links, block, 0);
-    tables::rows::set_filed(links, block, 0);
-    links[address::COUNT] = count - 1;
+    let count = tables.count();
+    tables.set_next(block, 0);
+    tables.set_filed(block, 0);
+    tables.set_count(count - 1);
 }
 
-// The same, and one word more is stored.
-pub fn relink(
-    links: &mut [u32],
-    nodes: &mut [u64],
-    blocks: usize,
-    block: usize,
-    at: usize,
-    value: u32,
-)
-    requires blocks_bound { (blocks ≤ 65535) × Packs blocks links.old nodes.old × (block ≤ blocks) × (1 ≤ count_of links.old) }
-    requires at_bound { (at < links_of blocks) × (value < 2 ^ 17) }
-    ensures { unpacked links.new nodes.new ≡ stores (unpacked links.old nodes.old) (withdrawal_stores (unpacked links.old nodes.old) block ((at ↤ value) ∷ [])) }
+// The block before leads on past the block.
+fn unlink(tables: &mut TablesMut, block: usize, before: u32, next: u32)
+    requires { PacksIn tables.old × (block ≤ blocks_in tables.old) × (1 ≤ count_of (links_in tables.old)) × (before ≤ blocks_in tables.old) }
+    ensures { Becomes tables.old tables.new (stores (links_in tables.old) (withdrawal_stores (links_in tables.old) block ((next_at before ↤ next) ∷ []))) }
 {
-    clear_row(links, block);
-    tables::stores::set_word(links, nodes, at, value);
+    clear_row(tables, block);
+    tables.set_next(before as usize, next);
 }
 
-// The same, the sibling takes the place of its parent, and the parent becomes the first free node.
-pub fn raise(
-    links: &mut [u32],
-    nodes: &mut [u64],
-    blocks: usize,
-    block: usize,
-    above: usize,
-    node: usize,
-    sibling: u32,
-)
-    requires blocks_bound { (blocks ≤ 65535) × Packs blocks links.old nodes.old × (block ≤ blocks) × (1 ≤ count_of links.old) }
-    requires above_bound { (above < links_of blocks) × (1 ≤ node) × (node < blocks) × (sibling < 2 ^ 17) × (free_of links.old < 2 ^ 17) }
-    ensures { unpacked links.new nodes.new ≡ stores (unpacked links.old nodes.old) (raise_stores blocks (unpacked links.old nodes.old) block above node sibling) }
+// The next block becomes the reference at the place.
+fn lead(tables: &mut TablesMut, block: usize, place: Place, next: u32)
+    requires { PacksIn tables.old × (block ≤ blocks_in tables.old) × (1 ≤ count_of (links_in tables.old)) × IsPlace (blocks_in tables.old) place × (next < 2 ^ 17) }
+    ensures { Becomes tables.old tables.new (stores (links_in tables.old) (withdrawal_stores (links_in tables.old) block ((address_of (blocks_in tables.old) place ↤ next) ∷ []))) }
 {
-    let free = links[address::FREE];
-    clear_row(links, block);
-    tables::nodes::set_node(nodes, node, 0, free, 0);
-    tables::stores::set_free(links, node as u32);
-    tables::stores::set_word(links, nodes, above, sibling);
+    clear_row(tables, block);
+    tables.set_reference(place, next);
 }
 
-// Makes the stores of a plan, and says whether there is one.
-pub fn make(links: &mut [u32], nodes: &mut [u64], blocks: usize, block: u32, plan: Plan) -> bool
-    requires blocks_bound { (blocks ≤ 65535) × Packs blocks links.old nodes.old × (1 ≤ block) × (block ≤ blocks) }
-    requires plan_fits { PlanFits blocks (unpacked links.old nodes.old) plan }
-    ensures { (result ≡ is_plan plan) × (unpacked links.new nodes.new ≡ stores (unpacked links.old nodes.old) (plan_stores blocks (unpacked links.old nodes.old) block plan)) }
+// The sibling takes the place of its parent, which becomes the first free node.
+fn raise(tables: &mut TablesMut, block: usize, above: Place, node: usize, sibling: u32, free: u32)
+    requires packs { PacksIn tables.old × (block ≤ blocks_in tables.old) × (1 ≤ count_of (links_in tables.old)) }
+    requires inside { IsPlace (blocks_in tables.old) above × (1 ≤ node) × (node < blocks_in tables.old) × (sibling < 2 ^ 17) × (free < 2 ^ 17) × (free ≡ free_of (links_in tables.old)) }
+    ensures { Becomes tables.old tables.new (stores (links_in tables.old) (raise_stores (blocks_in tables.old) (links_in tables.old) block (address_of (blocks_in tables.old) above) node sibling)) }
 {
+    clear_row(tables, block);
+    tables.set_node(node, 0, Side::Left, free, 0);
+    tables.set_free(node as u32);
+    tables.set_reference(above, sibling);
+}
+
+// Makes the stores of a plan.
+pub fn carry_out(tables: &mut TablesMut, block: u32, plan: Plan)
+    requires packs { PacksIn tables.old × (1 ≤ block) × (block ≤ blocks_in tables.old) }
+    requires plan_fits { PlanFits (blocks_in tables.old) (links_in tables.old) (Some plan) }
+    ensures { Becomes tables.old tables.new (stores (links_in tables.old) (plan_stores (blocks_in tables.old) (links_in tables.old) block (Some plan))) }
+{
+    let block = block as usize;
     match plan {
-        Plan::Unfit => false,
-        Plan::Relink(at, value) => {
-            relink(links, nodes, blocks, block as usize, at, value);
-            true
-        }
-        Plan::Raise(above, node, sibling) => {
-            raise(links, nodes, blocks, block as usize, above, node, sibling);
-            true
-        }
+        Plan::Unlink { before, next } => unlink(tables, block, before, next),
+        Plan::Lead { place, next } => lead(tables, block, place, next),
+        Plan::Raise {
+            above,
+            node,
+            sibling,
+            free,
+        } => raise(tables, block, above, node, sibling, free),
     }
 }

@@ -4,9 +4,10 @@ pub mod Runs
 pub mod Numbered
 pub mod Covered
 pub mod Splitting
+pub mod Turns
+pub mod Signing
 pub mod Triplets
 pub mod Different
 pub mod Setting
-pub mod Passing
 pub mod Asked
 mod Examples

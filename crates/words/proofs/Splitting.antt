@@ -3,6 +3,7 @@
 use mathlib.Core.Path.{◌≡◌, refl, ap}
 use mathlib.Core.List.{List, [], ◌∷◌}
 use mathlib.Core.Bool.{true, false}
+use mathlib.Core.Logic.{◌≢◌}
 use Prim.Native.Nat.{ℕ, zero, suc, ◌+◌, ◌-◌, ◌≤◌, ◌<◌}
 use native.Mathlib.Omega.{arith}
 use native.Mathlib.Numerals.{add-one}
@@ -23,10 +24,11 @@ unfolding ended
 ended_some s zero ps h = absurd (omega arith)
 ended_some s (suc n) ps h = refl
 
-nth_next : (e : Part) (n : ℕ) (p : Part) (ps : List Part) → 1 < n → nth e n (p ∷ ps) ≡ nth e (n - 1) ps
+nth_next : (e : Part) (n : ℕ) (p : Part) (ps : List Part) → n ≢ 1 → nth e n (p ∷ ps) ≡ nth e (n - 1) ps
 unfolding nth
-nth_next e zero p ps h = absurd (omega arith)
-nth_next e (suc zero) p ps h = absurd (omega arith)
+nth_next e zero p [] h = refl
+nth_next e zero p (q ∷ ps) h = refl
+nth_next e (suc zero) p ps h = absurd (h refl)
 nth_next e (suc (suc n)) p ps h = ap (λ (m : ℕ). nth e m ps) (omega arith)
 
 nth_one : (e : Part) (p : Part) (ps : List Part) → nth e 1 (p ∷ ps) ≡ p
@@ -36,11 +38,6 @@ nth_one e p ps = refl
 nth_none : (e : Part) (n : ℕ) → nth e n [] ≡ e
 unfolding nth
 nth_none e n = refl
-
-nth_zero : (e : Part) (ps : List Part) → nth e 0 ps ≡ e
-unfolding nth
-nth_zero e [] = refl
-nth_zero e (p ∷ ps) = refl
 
 module _ (text : List ℕ) (left start i : ℕ) (here : start ≤ i) (below : i < length text) where
   ahead : drop i text ≡ get_or text i 0 ∷ drop (suc i) text
@@ -63,7 +60,7 @@ module _ (text : List ℕ) (left start i : ℕ) (here : start ≤ i) (below : i 
       rw (e, z) (simp (ahead, g, s, add-one))
 
   -- a word ends, and it is not the one
-  pub passed : separator (get_or text i 0) ≡ true → start < i → 1 < left → rest text left start i ≡ rest text (left - 1) (i + 1) (i + 1)
+  pub passed : separator (get_or text i 0) ≡ true → start < i → left ≢ 1 → rest text left start i ≡ rest text (left - 1) (i + 1) (i + 1)
   unfolding rest scan
   passed g h k =
       let z : i + 1 - (i + 1) ≡ 0 = omega arith in
@@ -91,7 +88,7 @@ module _ (text : List ℕ) (left start i : ℕ) (here : start ≤ i) (all : i �
       simp (none, z, nth_none)
 
   -- it ends with a word that is not the one
-  pub ends_short : start < i → 1 < left → rest text left start i ≡ end_of text
+  pub ends_short : start < i → left ≢ 1 → rest text left start i ≡ end_of text
   unfolding rest scan
   ends_short h k =
       let more : 0 < i - start = omega arith in
@@ -103,8 +100,3 @@ module _ (text : List ℕ) (left start i : ℕ) (here : start ≤ i) (all : i �
   ends_found h k =
       let more : 0 < i - start = omega arith in
       simp (k, none, ended_some, nth_one)
-
--- no word has the number 0
-pub zeroth : (text : List ℕ) → word_at text 0 ≡ end_of text
-unfolding word_at
-zeroth text = nth_zero (end_of text) (parts_of text)

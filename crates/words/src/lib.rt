@@ -5,37 +5,52 @@ mod question;
 mod signer;
 mod splitter;
 
+ghost use Rattle.answers.specs.Answers.{answer_of};
 ghost use Rattle.model.specs.Words.{WordPromise, PlacePromise, SignPromise};
+ghost use Rattle.words.specs.Signed.{signature_or_0};
+
+use answers::Refusal;
 
 // Word n of the text, counted from 1, as the part of the text that it occupies; the empty part at its end where there is none.
+// The request names this form: a refused text gives back a part too, so the answer's number is in a lent word.
 pub fn word<'a>(text: &'a [u8], n: u32, answer: &mut u32) -> &'a [u8]
     ensures { WordPromise text.entry n answer.new result }
 {
-    let found = splitter::find(text, n);
-    *answer = found.answer;
-    let start = found.start;
-    let end = found.end;
-    &text[start..end]
+    match splitter::find(text, n) {
+        Ok(place) => {
+            *answer = 0;
+            &text[place]
+        }
+        Err(refusal) => {
+            *answer = refusal.into();
+            &text[text.len()..]
+        }
+    }
 }
 
-// The same for a caller who cannot be handed a part: where it starts, and its size. Gives the answer back.
+// The same for a caller who cannot be handed a part: where it starts, and its size. Gives the answer back. The C interface has this
+// signature.
 pub fn word_place(text: &[u8], n: u32, start: &mut usize, size: &mut usize) -> u32
     ensures { PlacePromise text.now n result start.new size.new }
 {
-    let found = splitter::find(text, n);
-    *start = found.start;
-    *size = found.end - found.start;
-    found.answer
+    match splitter::find(text, n) {
+        Ok(place) => {
+            *start = place.start;
+            *size = place.len();
+            0
+        }
+        Err(refusal) => {
+            *start = text.len();
+            *size = 0;
+            refusal.into()
+        }
+    }
 }
 
-// The text's signature of the width, each word setting its first k different positions; 0 where refused.
-pub fn sign(text: &[u8], width: u32, k: u32, answer: &mut u32) -> u64
-    ensures { SignPromise width k text.now answer.new result }
+// The text's signature of the width, each word setting its first k different positions.
+pub fn sign(text: &[u8], width: u32, k: u32) -> Result<u64, Refusal>
+    ensures { SignPromise width k text.now (answer_of result) (signature_or_0 result) }
 {
-    let refusal = question::refusal(text, width, k);
-    *answer = refusal;
-    if refusal != 0 {
-        return 0;
-    }
-    signer::sign_words(text, width, k)
+    let signer = question::signer(text, width, k)?;
+    Ok(signer.sign(text))
 }

@@ -1,41 +1,43 @@
-// The questions of the signer, of which the first no decides: 4 for the width, then 12 and 13.
-ghost use Rattle.std.specs.Prelude.{◌≡◌, ◌≤◌};
-ghost use Rattle.model.specs.Words.{sign_refusal};
+// The questions of the signer, of which the first no decides, and the splitter's one.
+ghost use Rattle.std.specs.Prelude.{◌≡◌, ◌<◌, ◌≤◌, length, IfOk, IfErr};
+ghost use Rattle.answers.specs.Answers.{answer_of};
+ghost use Rattle.model.specs.Words.{word_refusal, sign_refusal};
+
+use crate::signer::Signer;
+use answers::Refusal;
 
 // question 4: the width is 1 to this
 const WIDEST: u32 = 64;
 
-const UNFIT: u32 = 4;
-
 // question 12: the longest text
-pub const LONGEST_TEXT: usize = 4096;
-
-pub const TOO_LONG: u32 = 12;
+const LONGEST_TEXT: usize = 4096;
 
 // question 13: k is 1 to this
 const MOST_POSITIONS: u32 = 8;
 
-const NO_SUCH_COUNT: u32 = 13;
-
-// The number of the first no, or 0.
-pub fn refusal(text: &[u8], width: u32, k: u32) -> u32
-    ensures number { result ≡ sign_refusal width k text.now }
-    ensures passed { result ≡ 0 → (1 ≤ width) × (width ≤ 64) × (k ≤ 8) }
+// Question 12.
+pub fn word_asks(text: &[u8]) -> Result<(), Refusal>
+    ensures number { answer_of result ≡ word_refusal text.now }
+    ensures passed { IfOk result (λ _. length text.now ≤ 4096) }
+    ensures refused { IfErr result (λ _. 4096 < length text.now) }
 {
-    if width < 1 {
-        return UNFIT;
+    if text.len() > LONGEST_TEXT {
+        return Err(Refusal::LongText);
     }
-    if WIDEST < width {
-        return UNFIT;
+    Ok(())
+}
+
+// Questions 4, 12 and 13, then the signer.
+pub fn signer(text: &[u8], width: u32, k: u32) -> Result<Signer, Refusal>
+    ensures number { answer_of result ≡ sign_refusal width k text.now }
+    ensures same { IfOk result (λ signer. (signer.width ≡ width) × (signer.k ≡ k)) }
+{
+    if !(1..=WIDEST).contains(&width) {
+        return Err(Refusal::Unfit);
     }
-    if LONGEST_TEXT < text.len() {
-        return TOO_LONG;
+    word_asks(text)?;
+    if !(1..=MOST_POSITIONS).contains(&k) {
+        return Err(Refusal::NoSuchCount);
     }
-    if k < 1 {
-        return NO_SUCH_COUNT;
-    }
-    if MOST_POSITIONS < k {
-        return NO_SUCH_COUNT;
-    }
-    0
+    Ok(Signer { width, k })
 }

@@ -1,65 +1,68 @@
-// The signature of a text: one pass, in which each byte ends at most one triplet and sets at most one position.
+// The signature of a text: the OR over its words, each of which sets the positions of its triplets.
 ghost use Rattle.std.specs.Prelude.{◌≡◌, List, [], ◌∷◌, ◌++◌, ℕ, ◌≤◌};
-ghost use Rattle.model.specs.Words.{triplet_position, text_signature};
+ghost use Rattle.model.specs.Words.{triplet_position, word_signature, text_signature};
 ghost use Rattle.words.specs.Pass.{Sets};
 
+use crate::splitter::is_separator;
+
 // What a word has set so far: its own signature, and how many different positions that are.
+#[derive(Clone, Copy, Default)]
+struct Own {
+    bits: u64,
+    count: u32,
+}
+
+// How texts are signed: the width of a signature, and k, the number of different positions that a word sets at most.
 #[derive(Clone, Copy)]
-pub struct Own {
-    pub bits: u64,
-    pub count: u32,
+pub struct Signer {
+    pub width: u32,
+    pub k: u32,
+    ghost some: { 1 ≤ width },
+    ghost fits: { width ≤ 64 },
+    ghost few: { k ≤ 8 },
 }
 
-// The position that a triplet sets.
-fn position(a: u8, b: u8, c: u8, width: u32) -> u32
-    requires { 1 ≤ width }
-    ensures { (result ≡ triplet_position width a b c) × (1 ≤ result) × (result ≤ width) }
-{
-    1 + (961 * (a as u32) + 31 * (b as u32) + (c as u32)) % width
-}
+impl Signer {
+    // The position that a triplet sets.
+    fn position(self, a: u8, b: u8, c: u8) -> u32
+        ensures { (result ≡ triplet_position self.width a b c) × (1 ≤ result) × (result ≤ self.width) }
+    {
+        1 + (961 * u32::from(a) + 31 * u32::from(b) + u32::from(c)) % self.width
+    }
 
-// A word's own signature with one more triplet's position, unless that is set already or the word has set k.
-fn add_position(bits: u64, count: u32, position: u32, width: u32, k: u32) -> Own
-    requires { (1 ≤ position) × (position ≤ width) × (width ≤ 64) × (k ≤ 8) }
-    ensures { (js : List ℕ) → Sets width k js bits count → Sets width k (js ++ (position ∷ [])) result.bits result.count }
-{
-    if k <= count {
-        return Own { bits, count };
-    }
-    if signature::is_set(bits, width, position) {
-        return Own { bits, count };
-    }
-    Own {
-        bits: bits | (1 << (width - position)),
-        count: count + 1,
-    }
-}
-
-// The OR over the words' signatures: a separator closes a word, and another byte ends a triplet if it is the word's third or later.
-pub fn sign_words(text: &[u8], width: u32, k: u32) -> u64
-    requires { (1 ≤ width) × (width ≤ 64) × (k ≤ 8) }
-    ensures { result ≡ text_signature width k text.now }
-{
-    let mut signed = 0;
-    let mut bits = 0;
-    let mut count = 0;
-    let mut start = 0;
-    let mut i = 0;
-    while i < text.len() {
-        if crate::splitter::is_separator(text[i]) {
-            signed = signed | bits;
-            bits = 0;
-            count = 0;
-            start = i + 1;
-        } else {
-            if 2 <= i - start {
-                let at = position(text[i - 2], text[i - 1], text[i], width);
-                let own = add_position(bits, count, at, width, k);
-                bits = own.bits;
-                count = own.count;
-            }
+    // A word's own signature with one more triplet's position, unless that is set already or the word has set k.
+    fn add_position(self, own: Own, position: u32) -> Own
+        requires { (1 ≤ position) × (position ≤ self.width) }
+        ensures { (js : List ℕ) → Sets self.width self.k js own.bits own.count → Sets self.width self.k (js ++ (position ∷ [])) result.bits result.count }
+    {
+        if own.count >= self.k || signature::is_set(own.bits, self.width, position) {
+            return own;
         }
-        i += 1;
+        Own {
+            bits: own.bits | (1 << (self.width - position)),
+            count: own.count + 1,
+        }
     }
-    signed | bits
+
+    // A word's signature. A word under three bytes has no triplet.
+    fn sign_word(self, word: &[u8]) -> u64
+        ensures { result ≡ word_signature self.width self.k word.now }
+    {
+        let mut own = Own::default();
+        for &[a, b, c] in word.array_windows::<3>() {
+            own = self.add_position(own, self.position(a, b, c));
+        }
+        own.bits
+    }
+
+    // The OR over the words' signatures. Between two separators stands a word or nothing, which sets no position.
+    pub fn sign(self, text: &[u8]) -> u64
+        ensures { result ≡ text_signature self.width self.k text.now }
+    {
+        let mut signed = 0;
+        for word in text.split(is_separator) {
+            signed |= self.sign_word(word);
+        }
+        signed
+    }
 }

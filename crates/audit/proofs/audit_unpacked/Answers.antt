@@ -1,22 +1,10 @@
--- `audit::audit_unpacked` meets its contract.
+-- `audit::audit_unpacked` meets its contract: question 4's no is passed on, and 11 is asked of the links themselves.
 -- Assumes nothing.
-use mathlib.Core.Path.{sym, ◌∙◌, subst}
-use Rattle.model.specs.Promises.{AuditPromise}
-use Rattle.audit.proofs.Verdict.{refused, found_sound, found_unsound, promised}
-use Rattle.audit.proofs.Either.{fits_unpacked, sound_unpacked, none_long}
+use Rattle.audit.proofs.Asked.{unfit_unpacked, answered_unpacked}
 use Rattle.audit.proofs.audit_unpacked.Goals as goal
 
-pub returns-then-not-unpacked_fit : goal.returns-then-not-unpacked_fit
-returns-then-not-unpacked_fit c = subst (AuditPromise _ _) (refused _ _ (sym c.unpacked_fit.ensures.asked ∙ c.if-not-unpacked_fit.true)) (promised _ _)
-
-pub sound-requires : goal.sound-requires
-sound-requires c =
-    fits_unpacked _ _ _ (none_long c.args.signatures.now) (c.unpacked_fit.ensures.fit c.if-not-unpacked_fit.false)
-
-pub returns-then-sound : goal.returns-then-sound
-returns-then-sound c =
-    subst (AuditPromise _ _) (found_sound _ _ (sym c.unpacked_fit.ensures.asked ∙ c.if-not-unpacked_fit.false) (sound_unpacked _ _ _ _ _ (none_long c.args.signatures.now) c.sound.ensures c.if-sound.true)) (promised _ _)
+pub returns-in_err-tables : goal.returns-in_err-tables
+returns-in_err-tables c = unfit_unpacked _ _ _ c.in_err-tables.was c.from_residual.ensures c.of.ensures.asked
 
 pub returns : goal.returns
-returns c =
-    subst (AuditPromise _ _) (found_unsound _ _ (sym c.unpacked_fit.ensures.asked ∙ c.if-not-unpacked_fit.false) (sound_unpacked _ _ _ _ _ (none_long c.args.signatures.now) c.sound.ensures c.if-sound.false)) (promised _ _)
+returns c = answered_unpacked _ c.in_ok-tables.ensures.read c.in_ok-tables.tables.fits c.sound.ensures

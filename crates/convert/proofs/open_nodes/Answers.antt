@@ -1,20 +1,18 @@
--- `convert::open_nodes` meets its contract: the words still to be written, from the node reached on, make the same links.
+-- `convert::open_nodes` meets its contract. The invariant: the words of the nodes passed are written.
 -- Assumes nothing.
-use native.Mathlib.Omega.{arith}
-use mathlib.Core.Path.{refl, ◌∙◌}
-use Rattle.convert.proofs.Opening.{open_start, open_turn, open_end}
+use Rattle.std.proofs.Common.{arith, refl}
+use Rattle.model.specs.Packed.{opened}
+use Rattle.convert.proofs.Opening.{open_more, open_all}
 use Rattle.convert.proofs.open_nodes.Goals as goal
 
 pub loop-i-init : goal.loop-i-init
-loop-i-init c = (omega arith, refl, open_start _ _ _)
-
-pub write_node-requires : goal.write_node-requires
-write_node-requires c =
-    (omega (arith, c.loop-i.invariant.1, c.loop-i-test.true, c.requires), omega (arith, c.loop-i-test.true, c.requires))
+unfolding opened
+loop-i-init c = refl
 
 pub loop-i-preserved : goal.loop-i-preserved
 loop-i-preserved c =
-    (omega (arith, c.loop-i-test.true), c.write_node.auto.old ∙ c.loop-i.invariant.1, open_turn _ _ _ _ _ _ _ c.loop-i-test.true refl c.write_node.ensures c.loop-i.invariant.2)
+    let p = c.parts_in-position.ensures in
+    open_more c.args.nodes.now c.loop-i.words _ c.loop-i.i _ c.loop-i-test.true (omega arith) c.loop-i.invariant (rw (← p.0, ← p.1, ← p.2) c.copy_from_slice.ensures.after)
 
 pub returns : goal.returns
-returns c = open_end _ _ _ _ _ c.loop-i-test.false c.loop-i.invariant.2
+returns c = open_all c.args.nodes.now c.loop-i.words c.loop-i.i (omega arith) (omega arith) c.loop-i.invariant

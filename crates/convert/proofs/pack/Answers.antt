@@ -1,29 +1,31 @@
 -- `convert::pack` keeps its promise.
 -- Assumes nothing.
-use native.Mathlib.Omega.{arith}
-use mathlib.Core.Path.{sym, ◌∙◌}
-use lib.ListN.{length}
-use Rattle.tables.proofs.Fits.{packs_of}
+use Rattle.std.proofs.Common.{sym, ◌∙◌, refl, arith}
+use Rattle.answers.proofs.Numbers.{number_some, passed_on}
+use Rattle.audit.proofs.Asked.{unfit_unpacked, answered_unpacked}
 use Rattle.convert.proofs.Fitting.{nodes_fit}
-use Rattle.convert.proofs.Closing.{audit_yes, pack_lengths, pack_tables, packs_all}
+use Rattle.convert.proofs.Closing.{audit_yes, pack_tables, packs_all}
 use Rattle.convert.proofs.pack.Goals as goal
 
-pub returns-then-not-lengths_fit : goal.returns-then-not-lengths_fit
-returns-then-not-lengths_fit c =
-    pack_lengths c.args.signatures.now c.args.old.now c.args.links.now c.args.nodes.now (sym c.lengths_fit.ensures ∙ c.if-not-lengths_fit.true)
+pub returns-in_err-tables : goal.returns-in_err-tables
+returns-in_err-tables c =
+    let n = number_some c.in_err-tables.field-0.0 in
+    pack_tables _ _ _ _ (sym c.lengths_fit.ensures ∙ c.if-not-lengths_fit.false) _ (unfit_unpacked _ _ _ c.in_err-tables.was c.from_residual.ensures c.of.ensures.asked) (λ z. omega (arith, passed_on _ _ c.from_residual.ensures))
 
-pub returns-then-answer-ne0 : goal.returns-then-answer-ne0
-returns-then-answer-ne0 c =
-    pack_tables c.args.signatures.now c.args.old.now c.args.links.now c.args.nodes.now (sym c.lengths_fit.ensures ∙ c.if-not-lengths_fit.false) _ c.audit_unpacked-answer.ensures c.if-answer-ne0.true
+pub returns-in_err-sound : goal.returns-in_err-sound
+returns-in_err-sound c =
+    let n = number_some c.in_err-sound.field-0.0 in
+    let t = c.in_ok-tables in
+    let p = passed_on _ _ c.from_residual-in_err-sound.ensures in
+    pack_tables _ _ _ _ (sym c.lengths_fit.ensures ∙ c.if-not-lengths_fit.false) _ (rw p (answered_unpacked _ t.ensures.read t.tables.fits c.in_err-sound.ensures)) (λ z. omega (arith, p))
 
-pub copy_rows-requires : goal.copy_rows-requires
-copy_rows-requires c =
-    let q = packs_of (length c.args.signatures.now) (length c.args.links.now) (length c.args.nodes.now) (sym c.lengths_fit.ensures ∙ c.if-not-lengths_fit.false) in let S = (audit_yes c.args.signatures.now c.args.old.now _ c.audit_unpacked-answer.ensures c.if-answer-ne0.false) in omega (arith, q, S.fits.links_long)
-
-pub close_nodes-requires : goal.close_nodes-requires
-close_nodes-requires c = let q = packs_of (length c.args.signatures.now) (length c.args.links.now) (length c.args.nodes.now) (sym c.lengths_fit.ensures ∙ c.if-not-lengths_fit.false) in let S = (audit_yes c.args.signatures.now c.args.old.now _ c.audit_unpacked-answer.ensures c.if-answer-ne0.false) in
-    record { le_blocks = (q.0, q.1, S.fits.links_long, q.3); nodes_fit = nodes_fit _ _ _ _ S }
+pub close_nodes-requires-clause-nodes_fit : goal.close_nodes-requires-clause-nodes_fit
+close_nodes-requires-clause-nodes_fit c =
+    let t = c.in_ok-tables.tables in
+    nodes_fit _ _ _ _ (audit_yes t.rows.signatures.now t.rows.links.now 0 (answered_unpacked _ (refl, refl) t.fits c.in_ok-sound.ensures) refl)
 
 pub returns : goal.returns
 returns c =
-    packs_all c.args.signatures.now c.args.old.now c.args.links.now c.args.nodes.now (sym c.lengths_fit.ensures ∙ c.if-not-lengths_fit.false) _ c.audit_unpacked-answer.ensures c.if-answer-ne0.false _ _ c.copy_rows.ensures c.close_nodes.ensures
+    let t = c.in_ok-tables in
+    let e = sym c.lengths_fit.ensures ∙ c.if-not-lengths_fit.false in
+    packs_all _ _ _ _ e 0 (answered_unpacked _ t.ensures.read t.tables.fits c.in_ok-sound.ensures) refl _ _ c.copy_from_slice.ensures.after (rw (← t.ensures.read.0, ← t.ensures.read.1) c.close_nodes.ensures)

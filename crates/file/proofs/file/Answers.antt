@@ -1,16 +1,25 @@
--- `file::file` meets its promise: a first no is the answer, and otherwise the promise is that of `file_passed`.
+-- `file::file` meets its promise: the first no is the answer; without a plan it is 11; else the plan's stores are made.
 -- Assumes nothing.
-use mathlib.Core.Path.{sym, ◌∙◌}
-use Rattle.file.proofs.Packed.{passes, refused_packed, done_packed}
+use native.Mathlib.Omega.{arith}
+use mathlib.Core.Path.{◌≡◌}
+use borrow.Author.Rules.{rules}
+use Rattle.std.specs.Prelude.{None, Some}
+use Rattle.answers.specs.Answers.{answer_of, number_of}
+use Rattle.file.proofs.Promised.{some_number, refused_first, eleven, done}
 use Rattle.file.proofs.file.Goals as goal
 
-pub returns-then-refusal-ne0 : goal.returns-then-refusal-ne0
-returns-then-refusal-ne0 c = refused_packed _ _ _ _ _ _ c.first_no-refusal.ensures c.if-refusal-ne0.true
+pub returns-in_err-read-clause-promise : goal.returns-in_err-read-clause-promise
+returns-in_err-read-clause-promise c =
+    let r : answer_of c.from_residual.result ≡ number_of c.in_err-read.field-0.0 = search rules in
+    rw r (refused_first c.args.tables.now c.args.block c.args.signature _ (some_number c.in_err-read.field-0.0) c.in_err-read.ensures.asked)
 
-pub file_passed-requires : goal.file_passed-requires
-file_passed-requires c =
-    let a = c.args in passes a.signatures.now a.links.now a.nodes.now a.block a.signature (sym c.first_no-refusal.ensures ∙ c.if-refusal-ne0.false)
+pub returns-in_err-plan-clause-promise : goal.returns-in_err-plan-clause-promise
+returns-in_err-plan-clause-promise c =
+    let r : answer_of c.from_residual-in_err-plan.result ≡ 11 = search rules in
+    let n : c.plan_filing.result ≡ None = grind arith in
+    rw r (eleven c.args.tables.now c.args.block c.args.signature c.in_ok-read.ensures.asked c.in_ok-read.read c.in_ok-read.ensures.read c.in_ok-ask.ensures.number _ c.plan_filing.ensures.plans n)
 
-pub returns : goal.returns
-returns c =
-    let a = c.args in done_packed a.signatures.now a.links.now a.nodes.now a.block a.signature (sym c.first_no-refusal.ensures ∙ c.if-refusal-ne0.false) _ _ _ _ c.file_passed.auto.links c.file_passed.auto.nodes c.file_passed.ensures
+pub returns-clause-promise : goal.returns-clause-promise
+returns-clause-promise c =
+    let n : c.plan_filing.result ≡ Some c.in_ok-plan.plan = grind arith in
+    done c.args.tables.now c.args.block c.args.signature c.in_ok-read.ensures.asked c.in_ok-read.read c.in_ok-read.ensures.read c.in_ok-ask.ensures.number _ c.plan_filing.ensures.plans _ n _ c.carry_out.ensures

@@ -1,25 +1,80 @@
--- `rebuild::rebuild` meets its contract: one law for each of its four returns.
+-- `rebuild::rebuild` keeps its promise, with a law for each of its four returns: the heads are collected, the tree is built of them, and
+-- the other nodes are freed.
 -- Assumes nothing.
-use mathlib.Core.Path.{sym, ◌∙◌}
-use Rattle.rebuild.proofs.Packed.{unfit_packed, short_packed, sound_packed, unsound_packed, rebuilt_packed_is}
+use Rattle.std.proofs.Common.{length, arith, refl, sym, ◌∙◌}
+use Rattle.std.proofs.Math.Seq.{length-take-le}
+use Rattle.std.proofs.Math.ListN.{set, length-set}
+use Rattle.model.specs.Packed.{Packs}
+use Rattle.rebuild.proofs.Packed.{unfit_packed, short_packed, unsound_packed, rebuilt_packed, read_packs, read_promise, read_walk, read_room, read_heads, read_width, read_is_width}
+use Rattle.rebuild.proofs.Whole.{few, fits, as_long, beyond, asks_packed, whole_packed}
 use Rattle.rebuild.proofs.rebuild.Goals as goal
 
-pub returns-then-not-tables_fit : goal.returns-then-not-tables_fit
-returns-then-not-tables_fit c =
-    let a = c.args in unfit_packed a.signatures.now a.links.now a.nodes.now a.scratch.now (sym c.tables_fit.ensures.asked ∙ c.if-not-tables_fit.true)
+pub returns-in_err-tables : goal.returns-in_err-tables
+returns-in_err-tables c = unfit_packed _ _ _ _ _ _ c.from_residual.ensures c.in_err-tables.ensures.asked
 
 pub returns-then-scratch-signatures : goal.returns-then-scratch-signatures
-returns-then-scratch-signatures c =
-    let a = c.args in short_packed a.signatures.now a.links.now a.nodes.now a.scratch.now (sym c.tables_fit.ensures.asked ∙ c.if-not-tables_fit.false) c.if-scratch-signatures.true
+returns-then-scratch-signatures c = short_packed _ _ _ _ c.in_ok-tables.ensures.asked c.if-scratch-signatures.true
 
-pub rebuild_sound-requires : goal.rebuild_sound-requires
-rebuild_sound-requires c = let a = c.args in
-    record { sound = (sound_packed a.signatures.now a.links.now a.nodes.now a.scratch.now (sym c.tables_fit.ensures.asked ∙ c.if-not-tables_fit.false) _ c.audit.ensures c.if-audit-eq0.true, (c.tables_fit.ensures.fit c.if-not-tables_fit.false).packs); signatures_in_bounds = c.if-scratch-signatures.false }
+pub returns-in_err-sound : goal.returns-in_err-sound
+returns-in_err-sound c =
+    let t = c.in_ok-tables in
+    unsound_packed _ _ _ _ t.ensures.asked c.if-scratch-signatures.false _ _ c.from_residual-in_err-sound.ensures (read_promise t.ensures.read t.tables.fits c.in_err-sound.ensures)
 
-pub returns-then-audit-eq0 : goal.returns-then-audit-eq0
-returns-then-audit-eq0 c =
-    let a = c.args in let b = c.rebuild_sound in rebuilt_packed_is a.signatures.now a.links.now a.nodes.now a.scratch.now (sym c.tables_fit.ensures.asked ∙ c.if-not-tables_fit.false) c.if-scratch-signatures.false _ c.audit.ensures c.if-audit-eq0.true (c.tables_fit.ensures.fit c.if-not-tables_fit.false).packs _ _ _ b.ensures.tables b.auto.links b.auto.nodes b.auto.scratch b.ensures.beyond
+pub collect-heads-requires : goal.collect-heads-requires
+collect-heads-requires c =
+    let t = c.in_ok-tables in
+    let told = c.in_ok-sound.ensures in
+    record {
+      walkable = read_walk t.ensures.read t.tables.fits told c.width-width.ensures.value c.root.ensures;
+      room = read_room t.ensures.read t.tables.fits told c.width-width.ensures.value c.root.ensures _ c.if-scratch-signatures.false;
+    }
+
+pub invariant_of-build : goal.invariant_of-build
+invariant_of-build c =
+    let t = c.in_ok-tables in
+    record { is_width = read_is_width t.ensures.read t.tables.fits c.width-width.ensures.value }
+
+pub slice_bounds-build-end : goal.slice_bounds-build-end
+slice_bounds-build-end c =
+    let t = c.in_ok-tables in
+    let K = read_heads t.ensures.read t.tables.fits c.in_ok-sound.ensures c.width-width.ensures.value c.root.ensures _ _ _ c.if-scratch-signatures.false c.collect-heads.ensures.end c.collect-heads.ensures.list in
+    fits K
+
+pub slice_bounds-build-end-2 : goal.slice_bounds-build-end-2
+slice_bounds-build-end-2 c =
+    let t = c.in_ok-tables in
+    let K = read_heads t.ensures.read t.tables.fits c.in_ok-sound.ensures c.width-width.ensures.value c.root.ensures _ _ _ c.if-scratch-signatures.false c.collect-heads.ensures.end c.collect-heads.ensures.list in
+    sym (length-take-le c.collect-heads.result c.collect-heads.new.scratch (fits K))
+
+pub build-requires-clause-group : goal.build-requires-clause-group
+build-requires-clause-group c =
+    let t = c.in_ok-tables in
+    let K = read_heads t.ensures.read t.tables.fits c.in_ok-sound.ensures c.width-width.ensures.value c.root.ensures _ _ _ c.if-scratch-signatures.false c.collect-heads.ensures.end c.collect-heads.ensures.list in
+    rw (read_width t.ensures.read t.tables.fits c.width-width.ensures.value) (asks_packed _ _ _ (read_packs t.ensures.read t.tables.fits) K).0
+
+pub build-requires-clause-le_first : goal.build-requires-clause-le_first
+build-requires-clause-le_first c =
+    let t = c.in_ok-tables in
+    let K = read_heads t.ensures.read t.tables.fits c.in_ok-sound.ensures c.width-width.ensures.value c.root.ensures _ _ _ c.if-scratch-signatures.false c.collect-heads.ensures.end c.collect-heads.ensures.list in
+    (asks_packed _ _ _ (read_packs t.ensures.read t.tables.fits) K).1.1
+
+pub free_rest-requires : goal.free_rest-requires
+free_rest-requires c =
+    let t = c.in_ok-tables in
+    let K = read_heads t.ensures.read t.tables.fits c.in_ok-sound.ensures c.width-width.ensures.value c.root.ensures _ _ _ c.if-scratch-signatures.false c.collect-heads.ensures.end c.collect-heads.ensures.list in
+    let P = read_packs t.ensures.read t.tables.fits in
+    (omega arith, omega (arith, few K, K.sound.fits.blocks_from), K.sound.fits.blocks_to, omega (arith, c.build.auto.nodes, P.nodes_long))
 
 pub returns : goal.returns
 returns c =
-    let a = c.args in unsound_packed a.signatures.now a.links.now a.nodes.now a.scratch.now (sym c.tables_fit.ensures.asked ∙ c.if-not-tables_fit.false) c.if-scratch-signatures.false _ c.audit.ensures c.if-audit-eq0.false
+    let a = c.args in
+    let t = c.in_ok-tables in
+    let K = read_heads t.ensures.read t.tables.fits c.in_ok-sound.ensures c.width-width.ensures.value c.root.ensures _ _ _ c.if-scratch-signatures.false c.collect-heads.ensures.end c.collect-heads.ensures.list in
+    let P = read_packs t.ensures.read t.tables.fits in
+    let l₂ = set (set a.links.now 2 c.reference.result) 3 c.free_from.result in
+    let P₁ : Packs (length a.signatures.now) l₂ a.nodes.now = record { rows_long = simp length-set P.rows_long; nodes_long = P.nodes_long } in
+    let P₂ : Packs (length a.signatures.now) l₂ c.build.new.nodes = record { rows_long = P₁.rows_long; nodes_long = omega (arith, c.build.auto.nodes, P.nodes_long) } in
+    let built = rw (read_width t.ensures.read t.tables.fits c.width-width.ensures.value) at (c.build.ensures l₂ P₁) in
+    rebuilt_packed _ _ _ _ t.ensures.asked c.if-scratch-signatures.false K.sound P l₂ c.free_rest.new.nodes _
+    (whole_packed _ _ _ P K _ _ _ l₂ _ _ (omega arith) c.reference.ensures c.free_from.ensures.value refl built (c.free_rest.ensures l₂ P₂))
+    (simp length-set refl) (c.free_rest.auto.nodes ∙ c.build.auto.nodes) (as_long K _ c.build.auto.group) (beyond K _ c.build.auto.group)

@@ -3,14 +3,16 @@
 use Prim.Native.Nat.{◌-◌}
 use mathlib.Core.Path.{◌≡◌}
 use lib.ListN.{length}
-use Rattle.sigtree.specs.Face.{lent}
+use Rattle.sigtree.specs.Held.{lent_in}
+use Rattle.runner.proofs.Same.{Same}
 use Rattle.runner.proofs.Turns.{Going}
 use Rattle.runner.proofs.drain.Given as goal
 
 abbrev pub invariant-loop-at : goal.invariant-loop-at
 invariant-loop-at g l =
-    Going l.bytes l.end (lent l.initial.signatures l.initial.links l.initial.nodes l.initial.scratch l.initial.marks l.initial.output) (lent l.signatures l.links l.nodes l.scratch l.marks l.output) l.at
-    × (length l.text ≡ length l.initial.text) × (length l.output ≡ length l.initial.output)
+    Going l.bytes l.end (lent_in l.initial.tables l.initial.work) (lent_in l.tables l.work) l.at
+    × (length l.text ≡ length l.initial.text)
+    × Same l.initial.tables l.initial.work l.tables l.work
 
 abbrev pub decreases-loop-at : goal.decreases-loop-at
 decreases-loop-at g l = l.end - l.at

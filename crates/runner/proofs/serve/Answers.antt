@@ -3,8 +3,5 @@
 use Rattle.runner.proofs.Turns.{ran_none}
 use Rattle.runner.proofs.serve.Goals as goal
 
-pub returns-then-text-lt48 : goal.returns-then-text-lt48
-returns-then-text-lt48 g c = ran_none _
-
-pub returns-then-text-output : goal.returns-then-text-output
-returns-then-text-output g c = ran_none _
+pub returns-then-text-lt48-clause-ran : goal.returns-then-text-lt48-clause-ran
+returns-then-text-lt48-clause-ran g c = ran_none _

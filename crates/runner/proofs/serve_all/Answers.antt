@@ -4,19 +4,20 @@ use mathlib.Core.Path.{refl}
 use native.Mathlib.Omega.{arith}
 use borrow.Author.Rules.{rules}
 use Rattle.runner.proofs.Turns.{ran_none, ran_more}
+use Rattle.runner.proofs.Same.{same_none, same_more}
 use Rattle.runner.proofs.serve_all.Goals as goal
 
-pub loop-turns-init : goal.loop-turns-init
-loop-turns-init g c = (ran_none _, omega arith, refl, refl, refl)
+pub loop-init : goal.loop-init
+loop-init g c = (ran_none _, omega arith, refl, refl, same_none _ _)
 
-pub returns-then-end-kept : goal.returns-then-end-kept
-returns-then-end-kept g c = ran_more _ _ _ _ _ c.loop-turns.invariant.0 c.last.ensures.turns
+pub returns-then-end-kept-clause-ran : goal.returns-then-end-kept-clause-ran
+returns-then-end-kept-clause-ran g c = ran_more _ _ _ _ _ c.loop.invariant.0 c.last.ensures.ended.turns
 
-pub loop-turns-preserved : goal.loop-turns-preserved
-loop-turns-preserved g c = (
-  ran_more _ _ _ _ _ c.loop-turns.invariant.0 c.drain-from.ensures.turns,
-  omega (arith, c.shift-kept.ensures.0, c.drain-from.ensures.whole, c.fill-end.ensures.1),
+pub loop-preserved : goal.loop-preserved
+loop-preserved g c = (
+  ran_more _ _ _ _ _ c.loop.invariant.0 c.drain-from.ensures.drained.turns,
+  omega (arith, c.shift-kept.ensures.0, c.drain-from.ensures.drained.whole, c.fill-end.ensures.1),
   search rules,
   search rules,
-  search rules,
+  same_more _ _ _ _ _ _ c.loop.invariant.4 c.drain-from.ensures.loans,
 )

@@ -3,4 +3,4 @@
 use Rattle.audit.proofs.walk.+walk.Given as goal
 
 abbrev pub decreases-walk : goal.decreases-walk
-decreases-walk l = l.untested
+decreases-walk g l = l.untested

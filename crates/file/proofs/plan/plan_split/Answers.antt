@@ -1,34 +1,31 @@
 -- `file::plan::plan_split` meets its contract: a check that fails has a no to a premise of `SplitPlan`.
 -- Assumes nothing.
+use Prim.Native.Nat.{◌-◌}
 use native.Mathlib.Omega.{arith}
 use mathlib.Core.Path.{sym, ◌∙◌}
-use borrow.Author.Tests.{ltb-true}
-use Rattle.file.proofs.Asked.{not_below}
-use Rattle.model.proofs.Asking.{in_range, not_in_range}
-use Rattle.file.proofs.Planned.{a_split, difference_in}
+use Rattle.model.proofs.Asking.{in_range}
+use Rattle.file.proofs.Planned.{no_node, too_large, differs, tested, a_split}
 use Rattle.file.proofs.plan.plan_split.Goals as goal
+use Rattle.file.proofs.plan.plan_split.Goals.{then-not-is_block-via-then-not-is_block, then-not-is_block-via-else-not-is_block+then-not-fits}
 
-pub returns-then-not-is_block : goal.returns-then-not-is_block
-returns-then-not-is_block c = record { splits = (λ x y z. not_in_range _ _ (sym c.is_block.ensures ∙ c.if-not-is_block.true) x (omega arith)); within = tt }
-
-pub returns-then-not-fits : goal.returns-then-not-fits
-returns-then-not-fits c = record { splits = (λ x y z. not_below _ _ (sym c.fits.ensures ∙ c.if-not-fits.true) z); within = tt }
+pub returns-then-not-is_block-clause-splits : goal.returns-then-not-is_block-clause-splits
+returns-then-not-is_block-clause-splits c = elim c.then-not-is_block.branch [
+  | then-not-is_block-via-then-not-is_block w ↦ no_node c.args.tables.now _ _ _ _ _ _ c.first_free-node.ensures c.width-width.ensures.value _ c.blocks-2.ensures (sym c.is_block.ensures ∙ w.if-not-is_block.true) _
+  | then-not-is_block-via-else-not-is_block+then-not-fits w ↦ too_large c.args.tables.now _ _ _ _ _ _ c.first_free-node.ensures c.width-width.ensures.value (sym w.fits.ensures ∙ w.if-not-fits.true) _
+]
 
 pub first_difference-position-requires : goal.first_difference-position-requires
-first_difference-position-requires c =
-    let p = c.requires.le_width in
-    (p.0, p.1, p.2, ltb-true _ _ (sym c.fits.ensures ∙ c.if-not-fits.false), λ e. p.3 (sym e))
+first_difference-position-requires c = differs c.args.tables.now c.args.signature c.args.place c.args.leaf c.args.other _ _ c.first_free-node.ensures c.width-width.ensures.value c.requires.differ (sym c.fits.ensures ∙ c.if-not-fits.false)
 
-pub bit-side-requires : goal.bit-side-requires
-bit-side-requires c =
-    let p = c.requires.le_width in
-    let d = difference_in _ _ _ p.2 (ltb-true _ _ (sym c.fits.ensures ∙ c.if-not-fits.false)) p.3 _ c.first_difference-position.ensures in
-    (d.0, d.1, p.1)
+pub is_set-requires : goal.is_set-requires
+is_set-requires c = tested c.args.tables.now c.args.signature c.args.place c.args.leaf c.args.other _ _ c.first_free-node.ensures c.width-width.ensures.value c.requires.differ (sym c.fits.ensures ∙ c.if-not-fits.false) _ c.first_difference-position.ensures
 
-pub returns : goal.returns
-returns c =
-    let r = in_range _ _ (sym c.is_block.ensures ∙ c.if-not-is_block.false) in
-    let q = c.requires.in_bounds in
-    let p = c.requires.le_width in
-    let d = difference_in _ _ _ p.2 (ltb-true _ _ (sym c.fits.ensures ∙ c.if-not-fits.false)) p.3 _ c.first_difference-position.ensures in
-    record { splits = a_split c.args.blocks c.args.width c.args.links.now c.args.signature c.args.link c.args.leaf c.args.other _ _ c.first_difference-position.ensures c.bit-side.ensures.0; within = (q.3, q.2, r.0, omega arith, c.bit-side.ensures.1, q.4, omega (arith, d.1, c.requires.le_width.1)) }
+pub returns-clause-splits : goal.returns-clause-splits
+returns-clause-splits c = a_split c.args.tables.now c.args.signature c.args.place c.args.leaf c.args.other _ _ c.first_free-node.ensures c.width-width.ensures.value c.requires.differ (sym c.fits.ensures ∙ c.if-not-fits.false) _ c.first_difference-position.ensures _ _ c.is_set.ensures c.of-side.ensures
+
+pub returns-clause-within : goal.returns-clause-within
+returns-clause-within c =
+    let r = in_range _ (c.blocks-2.result - 1) (sym c.is_block.ensures ∙ c.if-not-is_block.false) in
+    let q = c.requires.inside in
+    let d = tested c.args.tables.now c.args.signature c.args.place c.args.leaf c.args.other _ _ c.first_free-node.ensures c.width-width.ensures.value c.requires.differ (sym c.fits.ensures ∙ c.if-not-fits.false) _ c.first_difference-position.ensures in
+    (q.0, q.1, r.0, omega (arith, r.1, q.0, c.blocks-2.ensures), q.2, omega (arith, d.1, d.2))

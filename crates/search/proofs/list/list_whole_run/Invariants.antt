@@ -1,12 +1,8 @@
--- `search::list::list_whole_run` meets its contract. The invariant: the output lists the blocks passed. Fewer than 64 are passed before
--- each block, so fewer than `found` are listed.
+-- `search::list::list_whole_run` meets its contract. The invariant: the output lists the blocks passed.
 -- Assumes nothing.
-use Prim.Native.Nat.{◌-◌}
+use Prim.Native.Nat.{◌+◌}
 use Rattle.search.proofs.Listings.{Passed}
 use Rattle.search.proofs.list.list_whole_run.Given as goal
 
-abbrev pub invariant-loop-block : goal.invariant-loop-block
-invariant-loop-block l = Passed l.marks l.found l.from l.listed l.initial.output l.to l.block l.n l.output
-
-abbrev pub decreases-loop-block : goal.decreases-loop-block
-decreases-loop-block l = l.to - l.block
+abbrev pub invariant-loop-passed : goal.invariant-loop-passed
+invariant-loop-passed l = Passed l.marks.bytes.now l.found l.from l.listed l.initial.output (l.from + 64) l.passed l.n l.output

@@ -10,10 +10,7 @@ use Rattle.model.specs.Clear.{free_nodes}
 use Rattle.model.specs.Packed.{unpacked, Packs}
 use Rattle.tables.proofs.free.free_rest.Given as goal
 
-abbrev pub invariant-loop-i : goal.invariant-loop-i
-invariant-loop-i l =
-    (l.first ≤ l.i) × (l.i ≤ l.blocks) × (length l.nodes ≡ length l.initial.nodes)
-    × ((links : List ℕ) → Packs l.blocks links l.initial.nodes → sets (unpacked links l.nodes) (position_at l.blocks l.i) (free_nodes (l.blocks - l.i) l.i) ≡ sets (unpacked links l.initial.nodes) (position_at l.blocks l.first) (free_nodes (l.blocks - l.first) l.first))
-
-abbrev pub decreases-loop-i : goal.decreases-loop-i
-decreases-loop-i l = l.blocks - l.i
+abbrev pub invariant-loop-node : goal.invariant-loop-node
+invariant-loop-node l =
+    (l.node ≤ l.blocks) × (length l.nodes ≡ length l.initial.nodes)
+    × ((links : List ℕ) → Packs l.blocks links l.initial.nodes → sets (unpacked links l.nodes) (position_at l.blocks l.node) (free_nodes (l.blocks - l.node) l.node) ≡ sets (unpacked links l.initial.nodes) (position_at l.blocks l.first) (free_nodes (l.blocks - l.first) l.first))

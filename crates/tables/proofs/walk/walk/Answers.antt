@@ -1,63 +1,44 @@
--- `tables::walk::walk` meets its contract. The invariant: what is left of the walk ends where the whole walk ends, the reference is the
--- word at the address reached, and the parent is the node at the address above.
+-- `tables::walk::walk` meets its contract.
 -- Assumes nothing.
-use Prim.Native.Nat.{◌-◌, ◌≤◌}
+use Prim.Native.Nat.{ℕ, ◌-◌, ◌≤◌}
 use native.Mathlib.Omega.{arith}
-use mathlib.Core.Path.{refl, ap, sym, ◌∙◌}
-use mathlib.Core.Logic.{inl, inr}
-use Rattle.model.specs.Tables.{side_at}
-use Rattle.model.proofs.Packing.{row_word}
-use Rattle.tables.proofs.Walks.{walk_starts, walk_steps, walk_ends, walk_fails, lost_at}
-use Rattle.tables.proofs.Edges.{edge_of, side_at_is}
+use mathlib.Core.Path.{ap}
+use mathlib.Core.Logic.{◌⊎◌, inl, inr}
+use lib.ListN.{length}
+use Rattle.tables.proofs.Reached.{reached_root, reached_unfit, reached_no_side, reached_side, ends_root, ends_below}
 use Rattle.tables.proofs.walk.walk.Goals as goal
+use Rattle.tables.proofs.walk.walk.Goals.{else-loop-test, then-loop-test+then-at-blocks}
 
-pub bounds-links-2 : goal.bounds-links-2
-bounds-links-2 c = omega (arith, c.requires.2.rows_long)
+pub loop-init : goal.loop-init
+loop-init c = reached_root _ _ _ _ _ _ _ _ (omega (arith, c.width-width.ensures.value)) c.root-reference.ensures
 
-pub loop-untested-init : goal.loop-untested-init
-loop-untested-init c =
-    let Q = c.requires.2 in
-    let l = Q.rows_long in
-    let e = sym (row_word c.args.links.now c.args.nodes.now 2 (omega arith)) in
-    (omega (arith, Q.nodes_long), omega (arith, Q.nodes_long), e, walk_starts _ _ _ _, record { here = λ _. e; node = λ n. absurd (n refl) })
+pub returns-then-blocks-next-clause-ends : goal.returns-then-blocks-next-clause-ends
+returns-then-blocks-next-clause-ends c =
+    reached_unfit _ _ _ _ _ _ _ _ _ _ c.loop.invariant (omega (arith, c.loop-test.true)) (omega (arith, c.if-at-blocks.false, c.blocks-blocks.ensures)) (λ f. let to = f.0 in omega (arith, c.if-blocks-next.true, c.blocks-blocks.ensures))
 
-pub returns-then-at-blocks : goal.returns-then-at-blocks
-returns-then-at-blocks c = let l = c.loop-untested in
-    record { ends = walk_ends _ _ _ _ _ _ _ l.invariant.3 (inl (omega (arith, c.wide-at.ensures, l.invariant.2))); inside = (l.invariant.0, l.invariant.1); held = l.invariant.4 }
+pub returns-in_err-side-clause-ends : goal.returns-in_err-side-clause-ends
+returns-in_err-side-clause-ends c =
+    rw c.from_residual.ensures
+    (reached_no_side _ _ _ _ _ _ _ _ _ _ c.loop.invariant (omega (arith, c.loop-test.true)) (omega (arith, c.if-at-blocks.false, c.blocks-blocks.ensures)) _ (ap (λ (n : ℕ). c.loop.reference - n) c.blocks-blocks.ensures) (omega (arith, c.if-blocks-next.false, c.blocks-blocks.ensures)) _ c.word_of-word.ensures
+    (rw c.width-width.ensures.value at (c.in_err-side.ensures)))
 
-pub returns-then-blocks-node : goal.returns-then-blocks-node
-returns-then-blocks-node c =
-    let l = c.loop-untested in
-    let whole = lost_at _ _ _ _ _ _ _ _ c.lost.ensures.0 c.lost.ensures.1 (omega (arith, c.if-blocks-node.true)) (walk_fails _ _ _ _ _ _ _ _ (c.wide-at.ensures ∙ c.loop-untested.invariant.2) c.loop-untested-test.true l.invariant.3 c.if-at-blocks.false (λ f. let g = f.0 in omega (arith, c.if-blocks-node.true))) in record { ends = whole.0; inside = whole.1.0; held = whole.1.1 }
+pub loop-preserved : goal.loop-preserved
+loop-preserved c =
+    reached_side _ _ _ _ _ _ _ _ _ _ c.loop.invariant (omega (arith, c.loop-test.true)) (omega (arith, c.if-at-blocks.false, c.blocks-blocks.ensures)) _ (ap (λ (n : ℕ). c.loop.reference - n) c.blocks-blocks.ensures) (omega (arith, c.if-blocks-next.false, c.blocks-blocks.ensures)) _ c.word_of-word.ensures
+    _ _ _ (omega arith) (rw c.width-width.ensures.value at (c.in_ok-side.ensures)) c.side_in-reference.ensures
 
-pub word_of-word-requires : goal.word_of-word-requires
-word_of-word-requires c =
-    omega (arith, c.if-blocks-node.false, c.requires.2.nodes_long, c.if-at-blocks.false)
+pub returns-then-node-eq0-clause-ends : goal.returns-then-node-eq0-clause-ends
+returns-then-node-eq0-clause-ends c =
+    let e : (c.loop.reference ≤ length c.args.tables.now.rows.signatures.now) ⊎ (c.width-width.result - c.loop.counter ≤ 0) = elim c.loop-test.branch [
+      | else-loop-test w ↦ inr (omega (arith, w.loop-test.false))
+      | then-loop-test+then-at-blocks w ↦ inl (omega (arith, w.if-at-blocks.true, c.blocks-blocks.ensures))
+    ] in
+    ends_root _ _ _ _ _ _ _ _ _ _ c.loop.invariant e c.if-node-eq0.true
 
-pub returns-then-side-gt1 : goal.returns-then-side-gt1
-returns-then-side-gt1 c =
-    let l = c.loop-untested in
-    let E = edge_of _ _ _ _ c.requires.2 _ _ _ _ (omega (arith, c.if-at-blocks.false)) c.if-blocks-node.false c.word_of-word.ensures c.edge_in-side.ensures in
-    let whole = lost_at _ _ _ _ _ _ _ _ c.lost-then-side-gt1.ensures.0 c.lost-then-side-gt1.ensures.1 (omega (arith, c.if-blocks-node.false)) (walk_fails _ _ _ _ _ _ _ _ (c.wide-at.ensures ∙ c.loop-untested.invariant.2) c.loop-untested-test.true l.invariant.3 c.if-at-blocks.false (λ f. let h = E.fit f in omega (arith, c.if-side-gt1.true))) in record { ends = whole.0; inside = whole.1.0; held = whole.1.1 }
-
-pub loop-untested-preserved : goal.loop-untested-preserved
-loop-untested-preserved c =
-    let l = c.loop-untested in
-    let small = c.if-side-gt1.false in
-    let from : 1 ≤ c.wide-at.result - c.args.blocks = omega (arith, c.if-at-blocks.false) in
-    let E = edge_of _ _ _ _ c.requires.2 _ _ _ _ from c.if-blocks-node.false c.word_of-word.ensures c.edge_in-side.ensures in
-    let f = E.node small in
-    let b = E.bit small in
-    let g = c.if-blocks-node.false in
-    let r = c.side_in-reference.ensures ∙ side_at_is _ 0 _ _ c.requires.2 0 _ _ _ from c.if-blocks-node.false c.word_of-word.ensures small in
-    let a = (c.wide-at.ensures ∙ c.loop-untested.invariant.2) in (
-      omega (arith, c.requires.2.nodes_long),
-      l.invariant.0,
-      r,
-      walk_steps _ _ _ _ _ _ _ _ _ a c.loop-untested-test.true l.invariant.3 c.if-at-blocks.false f (ap (side_at c.args.blocks _) b),
-      record { here = λ _. r; node = λ _. (omega (arith, c.if-at-blocks.false), from, g) },
-    )
-
-pub returns : goal.returns
-returns c = let l = c.loop-untested in
-    record { ends = walk_ends _ _ _ _ _ _ _ l.invariant.3 (inr c.loop-untested-test.false); inside = (l.invariant.0, l.invariant.1); held = l.invariant.4 }
+pub returns-clause-ends : goal.returns-clause-ends
+returns-clause-ends c =
+    let e : (c.loop.reference ≤ length c.args.tables.now.rows.signatures.now) ⊎ (c.width-width.result - c.loop.counter ≤ 0) = elim c.loop-test.branch [
+      | else-loop-test w ↦ inr (omega (arith, w.loop-test.false))
+      | then-loop-test+then-at-blocks w ↦ inl (omega (arith, w.if-at-blocks.true, c.blocks-blocks.ensures))
+    ] in
+    ends_below _ _ _ _ _ _ _ _ _ _ c.loop.invariant e c.if-node-eq0.false _ c.place_below.ensures.address _ c.place_below-2.ensures.address

@@ -1,30 +1,32 @@
 -- `withdraw::plan::find_before` meets its contract. The invariant: on a chain that has the block, the search of what is left ends
 -- where the definition's does; so it neither runs out nor meets a word that is no block.
 -- Assumes nothing.
-use mathlib.Core.Path.{sym, ◌∙◌}
-use Rattle.model.proofs.Packing.{row_word}
-use Rattle.withdraw.proofs.Chains.{seek, some_left, next_is_block, found_before, pass}
-use Rattle.model.proofs.Asking.{in_range, not_in_range}
+use Prim.Native.Nat.{◌+◌, ◌-◌}
 use native.Mathlib.Omega.{arith}
+use mathlib.Core.Path.{◌≡◌, sym, ◌∙◌, ap}
+use Rattle.std.specs.Prelude.{Some}
+use Rattle.model.proofs.Asking.{in_range, not_in_range}
+use Rattle.tables.proofs.Held.{next}
+use Rattle.withdraw.proofs.Chains.{seek, some_left, next_is_block, found_before, pass}
 use Rattle.withdraw.proofs.plan.find_before.Goals as goal
 
-pub loop-left-init : goal.loop-left-init
-loop-left-init c = (omega arith, omega arith, λ nodes. seek)
+pub loop-init : goal.loop-init
+loop-init c = (c.requires.0, c.requires.1, λ cs q m. seek (c.blocks-blocks.result - 0) (omega (arith, c.blocks-blocks.ensures)) cs q m)
 
-pub next_of-next-requires : goal.next_of-next-requires
-next_of-next-requires c = omega arith
+pub returns-then-next-block-clause-chain : goal.returns-then-next-block-clause-chain
+returns-then-next-block-clause-chain c cs q m =
+    ap Some (found_before (c.next_of-next.ensures ∙ next c.args.tables.now _ c.loop.invariant.1) _ (c.loop.invariant.2 cs q m) c.if-next-block.true)
 
-pub returns-then-next-block : goal.returns-then-next-block
-returns-then-next-block c = record { chain = (λ nodes cs q m. (found_before (c.next_of-next.ensures ∙ sym (row_word _ nodes _ (omega arith))) _ (c.loop-left.invariant.2 nodes cs q m) c.if-next-block.true, omega arith)); inside = omega arith }
+pub returns-then-not-is_block-clause-chain : goal.returns-then-not-is_block-clause-chain
+returns-then-not-is_block-clause-chain c cs q m =
+    let k = next_is_block (c.next_of-next.ensures ∙ next c.args.tables.now _ c.loop.invariant.1) (c.loop.invariant.2 cs q m) in
+    not_in_range _ _ (rw c.blocks-blocks.ensures at (sym c.is_block.ensures ∙ c.if-not-is_block.true)) k.0 k.1
 
-pub returns-then-not-is_block : goal.returns-then-not-is_block
-returns-then-not-is_block c =
-    record { chain = (λ nodes cs q m. let k = next_is_block (c.next_of-next.ensures ∙ sym (row_word _ nodes _ (omega arith))) (c.loop-left.invariant.2 nodes cs q m) in absurd (not_in_range _ _ (sym c.is_block.ensures ∙ c.if-not-is_block.true) k.0 k.1)); inside = omega arith }
+pub loop-preserved : goal.loop-preserved
+loop-preserved c =
+    let r = in_range c.next_of-next.result c.blocks-blocks.result (sym c.is_block.ensures ∙ c.if-not-is_block.false) in
+    let n : c.blocks-blocks.result - (c.loop.counter + 1) ≡ c.blocks-blocks.result - c.loop.counter - 1 = omega arith in
+    (r.0, omega (arith, r.1, c.blocks-blocks.ensures), λ cs q m. rw n (pass (c.next_of-next.ensures ∙ next c.args.tables.now _ c.loop.invariant.1) _ (c.loop.invariant.2 cs q m) c.if-next-block.false))
 
-pub loop-left-preserved : goal.loop-left-preserved
-loop-left-preserved c =
-    let r = in_range _ _ (sym c.is_block.ensures ∙ c.if-not-is_block.false) in
-    (r.0, r.1, λ nodes cs q m. pass (c.next_of-next.ensures ∙ sym (row_word _ nodes _ (omega arith))) _ (c.loop-left.invariant.2 nodes cs q m) c.if-next-block.false)
-
-pub returns : goal.returns
-returns c = record { chain = (λ nodes cs q m. let k = some_left (c.loop-left.invariant.2 nodes cs q m) in absurd (omega arith)); inside = omega arith }
+pub returns-clause-chain : goal.returns-clause-chain
+returns-clause-chain c cs q m = let k = some_left (c.loop.invariant.2 cs q m) in absurd (omega (arith, c.loop-test.false))

@@ -1,62 +1,40 @@
 -- `withdraw::plan::plan_block` meets its contract: on sound tables the walk by the block's own signature ends at its chain, so no test
 -- for unfit tables refuses, and the head's test is the definition's.
 -- Assumes nothing.
-use Prim.Native.Nat.{ℕ, ◌≤◌}
 use native.Mathlib.Omega.{arith}
-use mathlib.Core.Path.{sym, ◌∙◌, subst}
-use Rattle.model.proofs.Packing.{front_word}
-use Rattle.withdraw.proofs.Packed.{next_small, free_small, next_row, ends_row}
-use Rattle.withdraw.proofs.Plans.{some_filed, walk_found, plans_head, plans_chain}
+use mathlib.Core.Path.{sym, ◌∙◌}
+use Rattle.tables.proofs.Held.{front, next}
+use Rattle.withdraw.proofs.Plans.{some_filed, free_small, next_small, walk_lost, some_place, plans_head, plans_chain}
 use Rattle.withdraw.proofs.plan.plan_block.Goals as goal
+use Rattle.withdraw.proofs.plan.plan_block.Goals.{then-first_free-ge-TOO_LARGE-via-then-first_free-ge-TOO_LARGE, then-first_free-ge-TOO_LARGE-via-else-first_free-ge-TOO_LARGE+then-next_of-ge-TOO_LARGE}
 
-pub bounds-links-0 : goal.bounds-links-0
-bounds-links-0 c =
-    omega (arith, c.requires.packs.rows_long)
+pub returns-then-count-eq0-clause-right : goal.returns-then-count-eq0-clause-right
+returns-then-count-eq0-clause-right c = some_filed _ _ _ c.requires (sym (front c.args.tables.now 4 (omega arith)) ∙ sym c.count.ensures ∙ c.if-count-eq0.true)
 
-pub bounds-links-4 : goal.bounds-links-4
-bounds-links-4 c =
-    omega (arith, c.requires.packs.rows_long)
+pub returns-then-first_free-ge-TOO_LARGE-clause-right : goal.returns-then-first_free-ge-TOO_LARGE-clause-right
+returns-then-first_free-ge-TOO_LARGE-clause-right c =
+    let t = c.args.tables.now in elim c.then-first_free-ge-TOO_LARGE.branch [
+      | then-first_free-ge-TOO_LARGE-via-then-first_free-ge-TOO_LARGE w ↦ free_small _ _ _ c.requires (omega (arith, c.first_free.ensures, front t 3 (omega arith), w.if-first_free-ge-TOO_LARGE.true))
+      | then-first_free-ge-TOO_LARGE-via-else-first_free-ge-TOO_LARGE+then-next_of-ge-TOO_LARGE w ↦ next_small _ _ _ c.requires (omega (arith, w.next_of.ensures, next t _ c.requires.to, w.if-next_of-ge-TOO_LARGE.true))
+    ]
 
-pub returns-then-links-eq0 : goal.returns-then-links-eq0
-returns-then-links-eq0 c =
-    record { right = (λ S. absurd (some_filed _ _ _ c.requires.passed S (front_word _ _ _ c.requires.packs 4 (omega arith) ∙ c.if-links-eq0.true))); within = tt }
+pub returns-in_err-walked-clause-right : goal.returns-in_err-walked-clause-right
+returns-in_err-walked-clause-right c = rw c.from_residual.ensures (walk_lost _ _ _ c.requires _ _ c.signature_of-signature.ensures (front c.args.tables.now 0 (omega arith)) _ c.in_err-walked.ensures.ends)
 
-pub bounds-links-3 : goal.bounds-links-3
-bounds-links-3 c =
-    omega (arith, c.requires.packs.rows_long)
+pub plan_head-requires-clause-fits : goal.plan_head-requires-clause-fits
+plan_head-requires-clause-fits c =
+    let t = c.args.tables.now in
+    let n = c.if-count-eq0.false in
+    (omega (arith, c.count.ensures, front t 4 (omega arith)), omega (arith, c.first_free.ensures, front t 3 (omega arith), c.if-first_free-ge-TOO_LARGE.false), omega (arith, c.next_of.ensures, next t _ c.requires.to, c.if-next_of-ge-TOO_LARGE.false))
 
-pub returns-then-links-ge-TOO_LARGE : goal.returns-then-links-ge-TOO_LARGE
-returns-then-links-ge-TOO_LARGE c =
-    record { right = (λ S. absurd (omega (arith, free_small _ _ S, front_word _ _ _ c.requires.packs 3 (omega arith), c.if-links-ge-TOO_LARGE.true, c.requires.passed.fits.blocks_to))); within = tt }
-
-pub next_of-requires : goal.next_of-requires
-next_of-requires c =
-    omega (arith, c.requires.packs.rows_long, c.requires.passed.to)
-
-pub returns-then-next_of-ge-TOO_LARGE : goal.returns-then-next_of-ge-TOO_LARGE
-returns-then-next_of-ge-TOO_LARGE c =
-    record { right = (λ S. absurd (omega (arith, next_small _ _ _ c.requires.passed S, next_row _ _ _ c.requires.packs _ c.requires.passed.to, c.next_of.ensures, c.if-next_of-ge-TOO_LARGE.true, c.requires.passed.fits.blocks_to))); within = tt }
-
-pub walk-walked-requires : goal.walk-walked-requires
-walk-walked-requires c =
-    (c.requires.passed.fits.blocks_to, subst (λ (F : ℕ). F ≤ 64) (front_word _ _ _ c.requires.packs 0 (omega arith)) c.requires.passed.fits.width_to, c.requires.packs)
-
-pub returns-then-link-eq0 : goal.returns-then-link-eq0
-returns-then-link-eq0 c =
-    record { right = (λ S. absurd (walk_found _ _ _ c.requires.passed S _ _ _ c.signature_of-signature.ensures (ends_row _ _ _ c.requires.packs _ _ _ c.walk-walked.ensures.ends) c.if-link-eq0.true)); within = tt }
-
-pub plan_head-requires : goal.plan_head-requires
-plan_head-requires c = let n = c.if-links-eq0.false in
-    record { blocks_bound = (c.requires.passed.fits.blocks_to, c.requires.packs, omega arith, c.if-links-ge-TOO_LARGE.false); le_block = (c.requires.passed.from, c.requires.passed.to, subst (λ (F : ℕ). F ≤ 64) (front_word _ _ _ c.requires.packs 0 (omega arith)) c.requires.passed.fits.width_to, c.walk-walked.ensures.inside.0, c.walk-walked.ensures.inside.1, omega (arith, c.next_of.ensures, c.if-next_of-ge-TOO_LARGE.false)); above_value = c.walk-walked.ensures.held.node }
-
-pub returns-then-head-block : goal.returns-then-head-block
-returns-then-head-block c =
-    record { right = (λ S. plans_head _ _ _ c.requires.passed S _ _ _ c.signature_of-signature.ensures (ends_row _ _ _ c.requires.packs _ _ _ c.walk-walked.ensures.ends) _ (sym ((c.walk-walked.ensures.held.here c.if-link-eq0.false)) ∙ c.if-head-block.true) (rw (front_word _ _ _ c.requires.packs 0 (omega arith)) c.plan_head.ensures.right)); within = c.plan_head.ensures.within }
+pub returns-then-walked-block-clause-right : goal.returns-then-walked-block-clause-right
+returns-then-walked-block-clause-right c = plans_head _ _ _ c.requires _ _ c.signature_of-signature.ensures (front c.args.tables.now 0 (omega arith)) c.in_ok-walked.walked c.in_ok-walked.ensures.ends c.in_ok-walked.ensures.held _ c.if-walked-block.true (c.plan_head.ensures.right _ _ (c.in_ok-walked.ensures.taken (some_place _ c.in_ok-walked.walked.place)))
 
 pub plan_chain-requires : goal.plan_chain-requires
-plan_chain-requires c = let n = c.if-links-eq0.false in
-    record { blocks_bound = (c.requires.passed.fits.blocks_to, c.requires.packs.rows_long, omega arith, omega (arith, c.next_of.ensures, c.if-next_of-ge-TOO_LARGE.false)); le_block = (c.requires.passed.from, c.requires.passed.to) }
+plan_chain-requires c =
+    let t = c.args.tables.now in
+    let n = c.if-count-eq0.false in
+    (c.requires.from, c.requires.to, omega (arith, c.count.ensures, front t 4 (omega arith)), omega (arith, c.next_of.ensures, next t _ c.requires.to, c.if-next_of-ge-TOO_LARGE.false))
 
-pub returns : goal.returns
-returns c =
-    record { right = (λ S. plans_chain _ _ _ c.requires.passed S _ _ _ c.signature_of-signature.ensures (ends_row _ _ _ c.requires.packs _ _ _ c.walk-walked.ensures.ends) _ (λ z. c.if-head-block.false ((c.walk-walked.ensures.held.here c.if-link-eq0.false) ∙ z)) (rw (← (c.walk-walked.ensures.held.here c.if-link-eq0.false)) (c.plan_chain.ensures.right _))); within = c.plan_chain.ensures.within }
+pub returns-clause-right : goal.returns-clause-right
+returns-clause-right c = plans_chain _ _ _ c.requires _ _ c.signature_of-signature.ensures (front c.args.tables.now 0 (omega arith)) c.in_ok-walked.walked c.in_ok-walked.ensures.ends c.in_ok-walked.ensures.held _ c.if-walked-block.false c.plan_chain.ensures.right

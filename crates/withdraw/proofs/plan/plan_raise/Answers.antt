@@ -1,20 +1,22 @@
--- `withdraw::plan::plan_raise` meets its contract: where the parent is a node that tests a position, no test refuses it.
+-- `withdraw::plan::plan_raise` meets its contract: what is stored is read off the parent's word.
 -- Assumes nothing.
-use Prim.Native.Nat.{◌+◌, ◌-◌}
+use Prim.Native.Nat.{◌+◌}
 use native.Mathlib.Omega.{arith}
 use mathlib.Core.Path.{◌∙◌}
 use Rattle.model.proofs.Packing.{part_below}
-use Rattle.tables.proofs.Edges.{edge_of, side_at_is}
-use Rattle.withdraw.proofs.Plans.{no_raise, raises, node_at}
+use Rattle.tables.specs.Sides.{side_number}
+use Rattle.tables.proofs.Held.{front}
+use Rattle.withdraw.proofs.Plans.{raises}
 use Rattle.withdraw.proofs.plan.plan_raise.Goals as goal
 
-pub word_of-word-requires : goal.word_of-word-requires
-word_of-word-requires c = omega (arith, c.requires.above_value.1, c.requires.above_value.2, c.requires.blocks_bound.1.nodes_long)
+pub returns-clause-right : goal.returns-clause-right
+returns-clause-right c F b s is_side =
+    let h = c.requires.holds in
+    raises c.args.tables.now c.args.parent h.1 h.0.1 h.0.2 F b s c.args.side is_side _ c.word_of-word.ensures _ _ _ c.side_in.ensures c.other.ensures
 
-pub returns-then-side-gt1 : goal.returns-then-side-gt1
-returns-then-side-gt1 c =
-    record { right = no_raise _ _ _ _ _ _ _ _ (node_at _ _ _ c.requires.above_value.0) (edge_of _ _ _ _ c.requires.blocks_bound.1 _ _ _ _ c.requires.above_value.1 c.requires.above_value.2 c.word_of-word.ensures c.edge_in-side.ensures) _ c.if-side-gt1.true; within = tt }
-
-pub returns : goal.returns
-returns c = let h = c.if-side-gt1.false in
-    record { right = raises _ _ _ _ _ _ _ _ (node_at _ _ _ c.requires.above_value.0) (edge_of _ _ _ _ c.requires.blocks_bound.1 _ _ _ _ c.requires.above_value.1 c.requires.above_value.2 c.word_of-word.ensures c.edge_in-side.ensures) _ h (c.side_in-sibling.ensures ∙ side_at_is _ 0 _ _ c.requires.blocks_bound.1 0 _ _ _ c.requires.above_value.1 c.requires.above_value.2 c.word_of-word.ensures (omega arith)); within = (c.requires.blocks_bound.2, c.requires.width_bound.1, c.requires.above_value.1, c.requires.above_value.2, omega (arith, c.side_in-sibling.ensures, part_below c.word_of-word.result (1 + (1 - c.edge_in-side.result)) (omega arith)), c.requires.blocks_bound.3) }
+pub returns-clause-within : goal.returns-clause-within
+returns-clause-within c =
+    let h = c.requires.holds.0 in
+    let f = c.requires.fits in
+    let free = c.first_free.ensures ∙ front c.args.tables.now 3 (omega arith) in
+    (f.0, h.0, h.1, h.2, omega (arith, c.side_in.ensures, part_below c.word_of-word.result (1 + side_number c.other.result) (omega arith)), omega (arith, free, f.1), free)

@@ -1,8 +1,0 @@
--- `split::split` meets its contract: a list parted at its best position has its sides there.
--- Assumes nothing.
-use Rattle.split.proofs.Halves.{halve}
-use Rattle.split.proofs.split.Goals as goal
-
-pub returns : goal.returns
-returns c =
-    halve _ _ _ _ _ _ c.best_position-position.ensures.best c.partition-low.ensures

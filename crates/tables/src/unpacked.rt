@@ -1,0 +1,33 @@
+// Tables of 5 * B + 2 links, lent to be read, of which question 4 says yes.
+ghost use Rattle.std.specs.Prelude.{◌≡◌, IfOk, length};
+ghost use Rattle.model.specs.Tables.{width_of};
+ghost use Rattle.model.specs.Sound.{FitsAt};
+ghost use Rattle.model.specs.Questions.{ask, asks_tables, tables_fit};
+ghost use Rattle.answers.specs.Answers.{answer_of};
+
+use crate::front;
+use crate::rows::Rows;
+use answers::Refusal;
+
+// The rows, and behind them in the same links three words for each node.
+#[derive(Clone, Copy)]
+pub struct Unpacked<'a> {
+    pub rows: Rows<'a>,
+    pub ghost fits: { FitsAt (length rows.signatures.now) (width_of rows.links.now) rows.signatures.now rows.links.now },
+}
+
+impl<'a> Unpacked<'a> {
+    // Question 4 of this form.
+    pub fn of(signatures: &'a [u64], links: &'a [u32]) -> Result<Unpacked<'a>, Refusal>
+        ensures asked { answer_of result ≡ ask 4 (tables_fit (asks_tables signatures.now links.now)) 0 }
+        ensures read { IfOk result (λ t. (t.rows.signatures.now ≡ signatures.now) × (t.rows.links.now ≡ links.now)) }
+    {
+        let blocks = signatures.len();
+        if front::unpacked_lengths(blocks, links.len()) && front::words_fit(links, blocks) {
+            return Ok(Unpacked {
+                rows: Rows { signatures, links },
+            });
+        }
+        Err(Refusal::Unfit)
+    }
+}

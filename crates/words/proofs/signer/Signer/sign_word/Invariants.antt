@@ -1,0 +1,10 @@
+-- `sign_word` meets its contract: what is set so far and the triplets ahead are the word's.
+-- Assumes nothing.
+use mathlib.Core.Path.{◌≡◌}
+use Rattle.std.specs.Slice.Iter.{windows_rest, windows_size}
+use Rattle.std.specs.Slice.ArrayWindows.{array_windows_parts}
+use Rattle.words.proofs.Signing.{WordSigns}
+use Rattle.words.proofs.signer.Signer.sign_word.Given as goal
+
+abbrev pub invariant-loop-a : goal.invariant-loop-a
+invariant-loop-a l = (windows_size (array_windows_parts l.a-iterator) ≡ 3) × WordSigns l.self.width l.self.k l.word (windows_rest (array_windows_parts l.a-iterator)) l.own.bits l.own.count
