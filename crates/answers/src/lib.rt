@@ -1,4 +1,4 @@
-// What a call gives back: what it found or did, or a refusal. Document 01 gives each answer a number; it is told here alone.
+// What a call gives back: what it found or did, or a refusal. Document 01 gives each answer a number; which, stands here alone.
 #![tactic(auto)]
 
 mod refusal;

@@ -10,7 +10,7 @@ use std::fmt;
 pub enum Refusal {
     // the slip is not sixteen bytes
     NotASlip = 1,
-    // the slip's kind is none
+    // the slip is of no kind that there is
     UnknownKind = 2,
     // a field that the slip's kind does not use is not 0
     FieldUsed = 3,
@@ -48,7 +48,7 @@ impl fmt::Display for Refusal {
     fn fmt<W: fmt::Write>(&self, f: &mut fmt::Formatter<W>) -> fmt::Result {
         f.write_str(match self {
             Refusal::NotASlip => "the slip is not sixteen bytes",
-            Refusal::UnknownKind => "the slip's kind is none",
+            Refusal::UnknownKind => "the slip is of no kind that there is",
             Refusal::FieldUsed => "a field that the slip's kind does not use is not 0",
             Refusal::Unfit => "the lengths or the first words of the tables do not fit",
             Refusal::NoBlock => "the block is none of the tables'",

@@ -12,7 +12,7 @@ pub struct Counts {
     pub bits: u32,
 }
 
-// The answer, 0 or the refusal's number, and the counts, all 0 where the call is refused.
+// The answer, 0 or the refusal's number, and the counts, all 0 where the call is refused: as numbers, which C and a line of text are told.
 #[derive(Clone, Copy, Debug, PartialEq, Eq)]
 pub struct Report {
     pub answer: u32,

@@ -1,21 +1,16 @@
 -- The promise of an audit that asks question 4 of the slices, and 11 of the tables that it says yes to.
 -- Assumes nothing.
-use Prim.Native.Nat.{ℕ, ◌≤◌}
-use native.Mathlib.Omega.{arith}
+use Prim.Native.Nat.{ℕ}
 use mathlib.Core.Path.{◌≡◌, refl, sym, ◌∙◌, ap, subst}
-use mathlib.Core.Bool.{Bool, true, false, ◌&&◌}
+use mathlib.Core.Bool.{Bool, false, ◌&&◌}
 use mathlib.Core.List.{List, []}
-use lib.ListN.{length}
-use Rattle.std.specs.Prelude.{Result, Ok, Err, IsErr, IsErrAnd}
-use Rattle.model.specs.Tables.{width_of}
-use Rattle.model.specs.Sound.{FitsAt}
+use Rattle.std.specs.Prelude.{Result, Err, IsErr, IsErrAnd}
 use Rattle.model.specs.Packed.{unpacked}
 use Rattle.model.specs.Questions.{ask, asks_tables, tables_fit}
 use Rattle.model.specs.Promises.{AuditPromise}
 use Rattle.model.specs.PackedPromises.{packed_fit, PackedAudit}
-use Rattle.model.proofs.Picks.{no_bool}
 use Rattle.answers.specs.declared.refusal.Refusal.{Refusal}
-use Rattle.answers.specs.Answers.{number_of, answer_of}
+use Rattle.answers.specs.Answers.{answer_of}
 use Rattle.answers.proofs.Numbers.{no_four, passed_on}
 use Rattle.tables.proofs.Either.{none_held}
 use Rattle.audit.proofs.Verdict.{refused, promised}
@@ -39,9 +34,5 @@ module _ (sigs links : List ℕ) {Q T : Type 0} {said : Result Q Refusal} (a : R
   unfit_unpacked e = let q = said_four _ e in subst (AuditPromise sigs links) (refused _ _ q.0 ∙ sym q.1) (promised _ _)
 
 -- of the form of 5 * B + 2 links the tables held are the links
-pub answered_unpacked : {sigs links S L : List ℕ} (answer : ℕ) → (S ≡ sigs) × (L ≡ links) → FitsAt (length S) (width_of L) S L
-    → (FitsAt (length S) (width_of (unpacked L [])) S (unpacked L []) → AuditPromise S (unpacked L []) answer) → AuditPromise sigs links answer
-answered_unpacked {S = S} {L = L} answer same fits told =
-    let e = none_held L [] refl in
-    let promise = rw e at told in
-    rw (← same.0, ← same.1) (promise fits)
+pub answered_unpacked : {sigs links S L : List ℕ} {answer : ℕ} → (S ≡ sigs) × (L ≡ links) → AuditPromise S (unpacked L []) answer → AuditPromise sigs links answer
+answered_unpacked {L = L} same told = rw (← same.0, ← same.1, ← none_held L [] refl) told

@@ -1,6 +1,6 @@
 -- What the code's tests say of the tables held, by the rows that it reads of a form.
 -- Assumes nothing.
-use Prim.Native.Nat.{ℕ, ◌-◌, ◌*◌, ◌%◌, ◌^◌, ◌≤◌, ◌<◌}
+use Prim.Native.Nat.{ℕ, ◌-◌, ◌^◌, ◌≤◌, ◌<◌}
 use native.Mathlib.Decide.{dec_lt, ℕ_discrete}
 use native.Mathlib.Omega.{arith}
 use mathlib.Core.Path.{◌≡◌, sym, ◌∙◌, ap, ap₂}
@@ -15,13 +15,14 @@ use Rattle.model.specs.Signature.{bit_at}
 use Rattle.model.specs.Tables.{word, width_of, root_of, free_of, count_of}
 use Rattle.model.specs.Sound.{filed_up_to}
 use Rattle.model.specs.Packed.{unpacked}
+use Rattle.signature.specs.declared.position.Position.{Position}
 use Rattle.tables.specs.Fits.{Fits, PartsOf}
 use Rattle.audit.specs.declared.walk.Lent.{Lent}
 use Rattle.audit.specs.declared.walk.Tested.{Tested}
 use Rattle.audit.specs.declared.node.Node.{Node}
 use Rattle.audit.specs.Audit.{rows_ok, rows_twin, leaf_twin, look_twin, passed_by, node_less, walk_twin, untested_all, tree_twin, free_twin, rest_ok, soundb}
 use Rattle.audit.proofs.RowLaws.{rows_none, rows_some}
-use Rattle.audit.proofs.WalkLaws.{look_far, look_none, look_wide, look_again, look_made, walk_leaf, walk_out, walk_done, walk_unfit, walk_stop, walk_both}
+use Rattle.audit.proofs.WalkLaws.{look_far, look_none, look_wide, look_again, look_new, walk_leaf, walk_out, walk_done, walk_unfit, walk_stop, walk_both}
 use Rattle.audit.proofs.AnswerLaws.{sound_rows, sound_count, sound_rest}
 use Rattle.audit.proofs.Either.{front, filed_all, rows_all, leaf_row}
 
@@ -48,21 +49,37 @@ module _ {sigs links nodes : List ℕ} (fits : Fits sigs links nodes) {S L : Lis
       width_read : F ≡ width_of U
       width_read = width ∙ front_read 0 (omega arith)
 
-      -- it has none, a position beyond the width, or one tested above it
-      pub node_unfit : (m : ℕ) → (p ≡ 0) ⊎ ((F < p) ⊎ (eqb (bit_at F m p) 1 ≡ true)) → None ≡ look_twin (unpacked links nodes) (length sigs) m i
-      node_unfit m = go (ℕ_discrete p 0) (dec_lt F p)
+      -- it tests no position of the width
+      pub node_none : (m : ℕ) → ((1 ≤ p) × (p ≤ F) → ⊥) → None ≡ look_twin (unpacked links nodes) (length sigs) m i
+      node_none m n = go (ℕ_discrete p 0)
         where
-          go : Dec (p ≡ 0) → Dec (F < p) → (p ≡ 0) ⊎ ((F < p) ⊎ (eqb (bit_at F m p) 1 ≡ true)) → None ≡ look_twin U (length sigs) m i
-          go (yes z) d c = sym (look_none _ _ _ _ inside parts.position z)
-          go (no nz) (yes w) c = sym (look_wide _ _ _ _ inside parts.position nz (rw (← width_read) w))
-          go (no nz) (no n) (inl z) = absurd (nz z)
-          go (no nz) (no n) (inr (inl w)) = absurd (n w)
-          go (no nz) (no n) (inr (inr o)) = sym (look_again _ _ _ _ inside parts.position nz (rw (← width_read) (omega arith)) (rw (← width_read) o))
+          far : p ≢ 0 → Dec (F < p) → F < p
+          far nz (yes w) = w
+          far nz (no g) = absurd (n (omega arith, omega arith))
 
-      module _ (nz : p ≢ 0) where
-        pub node_made : (m : ℕ) → F ≤ 64 → p ≤ F → eqb (bit_at F m p) 1 ≡ false
-            → Some (record { weight = (1 * 2 ^ (F - p)) % 2 ^ 64; left = l; right = r }) ≡ look_twin (unpacked links nodes) (length sigs) m i
-        node_made m f w o = rw width_read (look_made _ _ _ _ inside parts.position (rw (← width_read) f) nz (rw (← width_read) w) (rw (← width_read) o) _ _ parts.left parts.right)
+          go : Dec (p ≡ 0) → None ≡ look_twin U (length sigs) m i
+          go (yes z) = sym (look_none _ _ _ _ inside parts.position z)
+          go (no nz) = sym (look_wide _ _ _ _ inside parts.position nz (rw (← width_read) (far nz (dec_lt F p))))
+
+      -- it tests a position
+      module _ (q : Position) (is : (q.width ≡ F) × (q.number ≡ p)) where
+        some : p ≢ 0
+        some = let a = q.inside.0 in omega (arith, is.1)
+
+        low : p ≤ width_of U
+        low = rw (← width_read) (let a = q.inside.1 in omega (arith, is.0, is.1))
+
+        test : (m : ℕ) → eqb (bit_at q.width m q.number) 1 ≡ eqb (bit_at (width_of U) m p) 1
+        test m = ap₂ (λ (f n : ℕ). eqb (bit_at f m n) 1) (is.0 ∙ width_read) is.1
+
+        -- one that was tested above it, or a new one
+        pub node_tested : (m : ℕ) → eqb (bit_at q.width m q.number) 1 ≡ true → None ≡ look_twin (unpacked links nodes) (length sigs) m i
+        node_tested m o = sym (look_again _ _ _ _ inside parts.position some low (sym (test m) ∙ o))
+
+        pub node_made : (m w : ℕ) → eqb (bit_at q.width m q.number) 1 ≡ false → w ≡ 2 ^ (q.width - q.number)
+            → Some (record { weight = w; left = l; right = r }) ≡ look_twin (unpacked links nodes) (length sigs) m i
+        node_made m w o e =
+            rw (e ∙ ap₂ (λ (f n : ℕ). 2 ^ (f - n)) (is.0 ∙ width_read) is.1) (look_new _ _ _ _ inside parts.position some low (sym (test m) ∙ o) _ _ parts.left parts.right)
 
     -- a subtree
     module _ (t : Tested) (r u : ℕ) (lent : Lent) where

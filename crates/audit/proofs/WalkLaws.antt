@@ -1,7 +1,6 @@
 -- The steps of the walk's definitions, as the code takes them: a leaf, an unfit reference, a node with its two sides.
 -- Assumes nothing.
-use Prim.Native.Nat.{ℕ, zero, suc, ◌+◌, ◌-◌, ◌*◌, ◌%◌, ◌^◌, ◌≤◌, ◌<◌}
-use native.Mathlib.Nat.{one-mul}
+use Prim.Native.Nat.{ℕ, zero, suc, ◌+◌, ◌-◌, ◌^◌, ◌≤◌, ◌<◌}
 use native.Mathlib.Decide.{dec_lt, ℕ_discrete}
 use native.Mathlib.Omega.{arith}
 use mathlib.Core.Path.{◌≡◌, refl, sym, ◌∙◌}
@@ -11,7 +10,6 @@ use mathlib.Core.List.{List}
 use lib.Bits.{bit_and}
 use lib.Dec.{eqb}
 use lib.ListN.{length}
-use lib.Pow.{shl_exact}
 use borrow.Author.Tests.{eq-eqb, ne_eqb, lt-ltb, le-ltb, le-leb, lt-leb}
 use Rattle.std.specs.Prelude.{Option, None, Some}
 use Rattle.model.specs.Signature.{bit_at}
@@ -20,10 +18,6 @@ use Rattle.audit.specs.declared.walk.Lent.{Lent}
 use Rattle.audit.specs.declared.walk.Tested.{Tested}
 use Rattle.audit.specs.declared.node.Node.{Node}
 use Rattle.audit.specs.Audit.{chain_twin, leaf_of, leaf_twin, look_twin, passed_by, node_less, sides_twin, node_twin, walk_twin}
-
--- a weight by a shift
-one_shl : (l : ℕ) → l < 64 → (1 * 2 ^ l) % 2 ^ 64 ≡ 2 ^ l
-one_shl l h = shl_exact {a = 1} 1 l 64 (omega arith) (omega arith) ∙ one-mul (2 ^ l)
 
 -- a node that may stand below a mask
 pub record NodeIs (L : List ℕ) (B m i : ℕ) : Type 0 where
@@ -51,15 +45,10 @@ module _ (L : List ℕ) (B m i : ℕ) where
     unfolding look_twin
     look_again nz w o = simp (lt-leb _ _ h, ← at, ne_eqb _ _ nz, le-ltb _ _ w, o)
 
-    look_new : p ≢ 0 → p ≤ width_of L → eqb (bit_at (width_of L) m p) 1 ≡ false → (l r : ℕ) → l ≡ left_of B L i → r ≡ right_of B L i
+    pub look_new : p ≢ 0 → p ≤ width_of L → eqb (bit_at (width_of L) m p) 1 ≡ false → (l r : ℕ) → l ≡ left_of B L i → r ≡ right_of B L i
         → Some (record { weight = 2 ^ (width_of L - p); left = l; right = r }) ≡ look_twin L B m i
     unfolding look_twin
     look_new nz w o l r el er = simp (lt-leb _ _ h, ← at, ne_eqb _ _ nz, le-ltb _ _ w, o, el, er)
-
-    -- the weight by a shift
-    pub look_made : width_of L ≤ 64 → p ≢ 0 → p ≤ width_of L → eqb (bit_at (width_of L) m p) 1 ≡ false → (l r : ℕ) → l ≡ left_of B L i → r ≡ right_of B L i
-        → Some (record { weight = (1 * 2 ^ (width_of L - p)) % 2 ^ 64; left = l; right = r }) ≡ look_twin L B m i
-    look_made f nz w o l r el er = rw (one_shl (width_of L - p) (omega arith)) (look_new nz w o l r el er)
 
   look_whole : NodeIs L B m i → look_twin L B m i ≡ Some (record { weight = 2 ^ (width_of L - position_of B L i); left = left_of B L i; right = right_of B L i })
   look_whole x =

@@ -6,9 +6,11 @@ use Rattle.std.specs.Int.Bits.{bit_and, bit_or}
 use Rattle.model.specs.Basics.{pick}
 use Rattle.model.specs.Signature.{bit_at}
 use Rattle.model.specs.Tables.{width_of, root_of, free_of, count_of, next_of, filed_of, position_of, left_of, right_of, signature_of}
-use Rattle.model.specs.Sound.{FitsAt, filed_up_to}
+use Rattle.model.specs.Sound.{filed_up_to}
 use Rattle.model.specs.Questions.{asks_tables, tables_fit}
-use Rattle.model.specs.Promises.{unsound, AuditPromise}
+use Rattle.model.specs.Promises.{unsound}
+use Rattle.tables.specs.declared.side.Side.{Side}
+use Rattle.tables.specs.declared.side.Side.TheVariants.{Left, Right}
 use Rattle.audit.specs.declared.walk.Lent.{Lent}
 use Rattle.audit.specs.declared.walk.Tested.{Tested}
 use Rattle.audit.specs.declared.node.Node.{Node}
@@ -56,6 +58,11 @@ look_twin links B m i =
     (pick (ltb (width_of links) (position_of B links i)) None
     (pick (eqb (bit_at (width_of links) m (position_of B links i)) 1) None
     (Some (record { weight = 2 ^ (width_of links - position_of B links i); left = left_of B links i; right = right_of B links i })))))
+
+-- the edge on a side of a position of weight w: 0 for the left, w for the right
+abbrev pub edge_on : Side → ℕ → ℕ
+edge_on Left w = 0
+edge_on Right w = w
 
 -- one edge further, past a position of weight w: x is 0 for the left edge, w for the right
 abbrev pub passed_by : Tested → ℕ → ℕ → Tested
@@ -127,7 +134,3 @@ soundb sigs links =
 -- the audit: 4 where question 4 says no, 0 where the tables are sound, else 11
 unfoldable pub audit_twin : List ℕ → List ℕ → ℕ
 audit_twin sigs links = pick (tables_fit (asks_tables sigs links)) (pick (soundb sigs links) 0 unsound) 4
-
--- question 11's answer to tables of which question 4 says yes
-abbrev pub SoundPromise : List ℕ → List ℕ → ℕ → Type 0
-SoundPromise sigs links answer = FitsAt (length sigs) (width_of links) sigs links → AuditPromise sigs links answer

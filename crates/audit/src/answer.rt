@@ -2,7 +2,8 @@
 ghost use Rattle.std.specs.Prelude.{◌≡◌};
 ghost use Rattle.model.specs.Packed.{unpacked};
 ghost use Rattle.answers.specs.Answers.{answer_of};
-ghost use Rattle.audit.specs.Audit.{soundb, SoundPromise};
+ghost use Rattle.model.specs.Promises.{AuditPromise};
+ghost use Rattle.audit.specs.Audit.{soundb};
 
 use super::free::free_chain;
 use super::rows::check_rows;
@@ -12,7 +13,7 @@ use tables::Form;
 
 // Question 11 alone, of either form.
 pub fn sound<F: Form>(form: &F) -> Result<(), Refusal>
-    ensures { SoundPromise (F.signatures form.now) (unpacked (F.links form.now) (F.nodes form.now)) (answer_of result) }
+    ensures { AuditPromise (F.signatures form.now) (unpacked (F.links form.now) (F.nodes form.now)) (answer_of result) }
 {
     if is_sound(form) {
         Ok(())
@@ -21,7 +22,7 @@ pub fn sound<F: Form>(form: &F) -> Result<(), Refusal>
     }
 }
 
-// Whether tables that fit are sound. The tree is lent all nodes, and as many blocks as are filed: none may be left over.
+// Whether tables that fit are sound. The tree is lent all nodes, and as many blocks as are filed: no block may be left over.
 fn is_sound<F: Form>(form: &F) -> bool
     ensures { result ≡ soundb (F.signatures form.now) (unpacked (F.links form.now) (F.nodes form.now)) }
 {

@@ -19,7 +19,8 @@ pub(crate) fn follow(rows: &Rows, signature: u64, head: u32, lent: u32) -> Optio
 {
     let mut block = head as usize;
     let mut left = lent;
-    // over the blocks lent, a `for` would ask twice whether the chain has ended
+    // Over the blocks lent, a `for` would ask twice whether the chain has ended. `std::iter::successors` ends alike at the chain's end and
+    // at an unfit block, so that a test after it would have to tell them apart.
     while block != 0 {
         if left == 0 || !on_chain(rows, signature, block) {
             return None;

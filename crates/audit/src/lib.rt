@@ -16,7 +16,7 @@ pub use answer::sound;
 use answers::Refusal;
 use tables::{Tables, Unpacked};
 
-// The audit: question 4, then 11. The slices come one by one: the caller lends them to be read only.
+// The audit: question 4, then 11. The slices come one by one, as C lends them; they are `Tables` once question 4 says yes.
 pub fn audit(signatures: &[u64], links: &[u32], nodes: &[u64]) -> Result<(), Refusal>
     ensures { PackedAudit signatures.now links.now nodes.now (answer_of result) }
 {

@@ -3,6 +3,7 @@ ghost use Rattle.std.specs.Prelude.{◌≡◌, ◌≤◌, length};
 ghost use Rattle.model.specs.Packed.{unpacked};
 ghost use Rattle.audit.specs.Audit.{look_twin};
 
+use signature::Position;
 use tables::Form;
 use tables::nodes::Parts;
 
@@ -23,17 +24,17 @@ pub(crate) fn look<F: Form>(form: &F, mask: u64, node: usize) -> Option<Node>
     if rows.blocks() <= node {
         return None;
     }
-    let width = rows.width();
     let Parts {
         position,
         left,
         right,
     } = form.node(node);
-    if position == 0 || width < position || signature::is_set(mask, width, position) {
+    let position = Position::of(rows.width(), position)?;
+    if position.is_set(mask) {
         return None;
     }
     Some(Node {
-        weight: 1 << (width - position),
+        weight: position.weight(),
         left,
         right,
     })

@@ -2,11 +2,11 @@
 // nodes and blocks that it may look at are lent to it.
 ghost use Rattle.std.specs.Prelude.{◌≡◌, ◌≤◌, length};
 ghost use Rattle.model.specs.Packed.{unpacked};
-ghost use Rattle.audit.specs.Audit.{leaf_twin, passed_by, walk_twin, tree_twin};
+ghost use Rattle.audit.specs.Audit.{leaf_twin, edge_on, passed_by, walk_twin, tree_twin};
 
 use super::chain::follow;
 use super::node::look;
-use tables::{Form, Rows};
+use tables::{Form, Rows, Side};
 
 // The nodes, and the blocks on chains, that a walk may look at.
 #[derive(Clone, Copy)]
@@ -23,10 +23,14 @@ pub struct Tested {
 }
 
 impl Tested {
-    // One edge further, past a position of this weight: the edge is 0 for the left, the weight for the right.
-    fn passed(self, weight: u64, edge: u64) -> Tested
-        ensures { result ≡ passed_by self weight edge }
+    // One edge further, on the side of a position of this weight.
+    fn passed(self, weight: u64, side: Side) -> Tested
+        ensures { result ≡ passed_by self weight (edge_on side weight) }
     {
+        let edge = match side {
+            Side::Left => 0,
+            Side::Right => weight,
+        };
         Tested {
             mask: self.mask | weight,
             edges: self.edges | edge,
@@ -75,9 +79,9 @@ fn walk<F: Form>(
         nodes: lent.nodes - 1,
         ..lent
     };
-    let left = tested.passed(node.weight, 0);
+    let left = tested.passed(node.weight, Side::Left);
     let rest = walk(form, left, node.left, untested - 1, below)?;
-    let right = tested.passed(node.weight, node.weight);
+    let right = tested.passed(node.weight, Side::Right);
     walk(form, right, node.right, untested - 1, rest)
 }
 

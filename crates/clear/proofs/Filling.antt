@@ -3,20 +3,15 @@
 use Prim.Native.Nat.{ℕ, ◌+◌, ◌-◌, ◌*◌, ◌≤◌}
 use native.Mathlib.Omega.{arith}
 use mathlib.Core.Path.{◌≡◌, sym, ◌∙◌, ap, ap₂}
-use mathlib.Core.List.{List, [], ◌∷◌, ◌++◌, append-nil}
-use lib.ListN.{length, take, drop, replicate, length-replicate, drop_of_length-le}
+use mathlib.Core.List.{List, [], ◌++◌, append-nil}
+use lib.ListN.{length, take, drop, length-replicate, drop_of_length-le}
 use lib.Seq.{sets, sets-eq, take_at}
 use Rattle.model.specs.Tables.{position_at}
-use Rattle.model.specs.Clear.{free_from, free_nodes, clear_links}
+use Rattle.model.specs.Clear.{free_nodes, clear_links}
 use Rattle.model.specs.Packed.{opened, rows_of, unpacked, Packs}
 use Rattle.model.proofs.Packing.{long_packs}
 use Rattle.tables.proofs.Spelled.{free_length}
 use Rattle.clear.specs.Cleared.{clear_rows}
-
--- the five words and the rows
-pub cleared_rows : (B F n f : ℕ) (words rows : List ℕ) → n ≡ 2 * B → f ≡ free_from B 1 → words ≡ F ∷ B ∷ 0 ∷ f ∷ 0 ∷ [] → rows ≡ replicate n 0 → words ++ rows ≡ clear_rows B F
-unfolding clear_rows
-cleared_rows B F n f words rows e g w r = rw (w, r, e, g)
 
 pub rows_length : (B F : ℕ) → length (clear_rows B F) ≡ rows_of B
 unfolding clear_rows

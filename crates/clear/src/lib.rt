@@ -9,17 +9,18 @@ ghost use Rattle.tables.specs.Changed.{SameLoans};
 ghost use Rattle.clear.specs.Cleared.{clear_rows};
 
 use answers::Refusal;
-use tables::{TablesMut, free, front};
+use tables::{TablesMut, address, free, front};
 
-// The links of cleared tables: the five words in front, then all rows 0.
+// The links of cleared tables: all words 0 but words 0, 1 and 3.
+#[tactic(auto, unfolding(crate::specs::Cleared::clear_rows))]
 fn clear_links(links: &mut [u32], blocks: usize, width: u32)
     requires { (1 ≤ blocks) × (blocks ≤ 65535) × (length links.old ≡ rows_of blocks) }
     ensures { links.new ≡ clear_rows blocks width }
 {
-    let first = free::free_from(blocks, 1);
-    let (words, rows) = links.split_at_mut(5);
-    words.copy_from_slice(&[width, blocks as u32, 0, first, 0]);
-    rows.fill(0);
+    links.fill(0);
+    links[address::WIDTH] = width;
+    links[address::BLOCKS] = blocks as u32;
+    links[address::FREE] = free::free_from(blocks, 1);
 }
 
 // Clears the tables, whatever they were. Question 4 looks at the lengths, B and the width asked for.

@@ -8,7 +8,7 @@ use mathlib.Core.Logic.{◌≢◌, ⊎_elim}
 use mathlib.Core.Bool.{true}
 use mathlib.Core.List.{List, [], ◌++◌, append-nil}
 use lib.ListN.{length, get_or, set, take, drop, drop_of_length-le}
-use lib.Seq.{paste, paste-zero, paste-suc, take_all}
+use lib.Seq.{paste, paste-suc, take_all}
 use Rattle.model.specs.Tables.{links_of, position_of, left_of, right_of}
 use Rattle.model.specs.Sound.{Sound}
 use Rattle.model.specs.Questions.{asks_tables, audit_refusal}
@@ -27,9 +27,6 @@ close_parts {L = L} h = let e = none_held L [] refl in rw e at h
 
 pub close_stored : {B : ℕ} {L : List ℕ} {i p l r : ℕ} → PartsOf B L i p l r → (k : ℕ) (now after : List ℕ) → after ≡ set now k (node_word p l r) → after ≡ set now k (node_word (position_of B L i) (left_of B L i) (right_of B L i))
 close_stored h k now after e = rw (← h.position, ← h.left, ← h.right) e
-
-pub close_start : (nodes Q : List ℕ) → nodes ≡ paste nodes 0 Q (1 - 1)
-close_start nodes Q = paste-zero nodes 0 Q
 
 pub close_turn : (B : ℕ) (old nodes now after : List ℕ) (i : ℕ) → 1 ≤ B → length old ≡ links_of B → length nodes + 1 ≡ B → 1 ≤ i → i < B → now ≡ paste nodes 0 (packed_nodes B old) (i - 1)
     → after ≡ set now (i - 1) (node_word (position_of B old i) (left_of B old i) (right_of B old i)) → after ≡ paste nodes 0 (packed_nodes B old) (i + 1 - 1)

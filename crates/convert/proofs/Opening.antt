@@ -6,17 +6,15 @@ use mathlib.Core.Path.{◌≡◌, refl, sym, ◌∙◌, ap, ap₂}
 use mathlib.Core.List.{List, [], ◌∷◌, ◌++◌}
 use native.Mathlib.Numerals.{add-one}
 use lib.ListN.{length, get_or, take}
-use lib.Seq.{take-suc, take_all}
+use lib.Seq.{take-suc}
 use borrow.Rule.Slice.PartMut.{put_mid}
 use Rattle.std.proofs.lemmas.Slice.{take-put_mid}
 use mathlib.Core.Logic.{◌≢◌}
 use mathlib.Core.Bool.{Bool, true, false, ◌&&◌}
 use lib.Dec.{eqb}
-use Rattle.model.specs.Tables.{links_of, width_of}
-use Rattle.model.specs.Sound.{FitsAt}
+use Rattle.model.specs.Tables.{links_of}
 use Rattle.model.specs.Promises.{AuditPromise}
 use Rattle.model.specs.Questions.{blocks_fit, ask, asks_tables, tables_fit}
-use Rattle.tables.specs.Fits.{FitsPacked}
 use Rattle.model.specs.PackedPromises.{packed_fit, PackedAudit, UnpackPromise}
 use Rattle.model.proofs.Asking.{true_false, both, ask_zero}
 use Rattle.model.specs.Packed.{position_in, left_in, right_in, opened, unpacked}
@@ -37,18 +35,12 @@ open_more nodes words three i k h room e et =
     ∙ sym (opened_append (take i nodes) (get_or nodes i 0 ∷ []))
     ∙ rw (add-one, take-suc nodes i 0 h) refl
 
--- all of them
-pub open_all : (nodes words : List ℕ) (i : ℕ) → length words ≡ 3 * length nodes → i ≡ length nodes → take (3 * i) words ≡ opened (take i nodes) → words ≡ opened nodes
-open_all nodes words i l e h =
-    sym (take_all (3 * i) words (omega arith)) ∙ h ∙ ap opened (take_all i nodes (omega arith))
-
 -- what an audit of tables that are read of the slices promises of these
-pub answered_packed : {sigs links nodes S L N : List ℕ} (answer : ℕ) → (S ≡ sigs) × (L ≡ links) × (N ≡ nodes) → FitsPacked S L N
-    → 0 ≡ ask 4 (packed_fit sigs links nodes && tables_fit (asks_tables sigs (unpacked links nodes))) 0
-    → (FitsAt (length S) (width_of (unpacked L N)) S (unpacked L N) → AuditPromise S (unpacked L N) answer) → PackedAudit sigs links nodes answer
-answered_packed answer same fits asked told =
+pub answered_packed : {sigs links nodes S L N : List ℕ} {answer : ℕ} → (S ≡ sigs) × (L ≡ links) × (N ≡ nodes)
+    → 0 ≡ ask 4 (packed_fit sigs links nodes && tables_fit (asks_tables sigs (unpacked links nodes))) 0 → AuditPromise S (unpacked L N) answer → PackedAudit sigs links nodes answer
+answered_packed same asked told =
     let yes = (ask_zero 3 _ 0 (sym asked)).0 in
-    record { unfit = λ f. true_false (both yes).0 f; asked = λ _. rw (← same.0, ← same.1, ← same.2) (told fits.fits) }
+    record { unfit = λ f. true_false (both yes).0 f; asked = λ _. rw (← same.0, ← same.1, ← same.2) told }
 
 left_no : (t u : Bool) → u ≡ true → (t && u) ≡ false → t ≡ false
 left_no true u e f = true_false e f

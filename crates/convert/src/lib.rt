@@ -1,5 +1,5 @@
-// From one form of the tables to the other, over the same signatures. The slices come one by one: the face of C lends some of each form
-// to be read only.
+// From one form of the tables to the other, over the same signatures. The slices come one by one, as C lends them: one form to be read,
+// which is `Tables` or `Unpacked` once question 4 says yes, and the other to be written, of which nothing is read.
 #![tactic(auto)]
 
 ghost use Rattle.std.specs.Prelude.{◌≡◌, ◌+◌, ◌*◌, ◌≤◌, length};
@@ -9,10 +9,11 @@ ghost use Rattle.model.specs.PackedPromises.{PackPromise, UnpackPromise};
 ghost use Rattle.convert.specs.Fitting.{NodesFit};
 
 use answers::Refusal;
-use tables::nodes::{Parts, parts_in, set_node};
+use tables::nodes::{Parts, set_node};
 use tables::{Form, Tables, Unpacked, front};
 
 // The three words of each node. They are written by index: of what was written through `chunks_exact_mut` a proof knows the length alone.
+#[tactic(auto, unfolding(model::specs::Packed::opened), using(crate::proofs::Opening::open_more))]
 fn open_nodes(nodes: &[u64], words: &mut [u32])
     requires { (length words.old ≡ 3 * length nodes.now) × (length nodes.now ≤ 65535) }
     ensures { words.new ≡ opened nodes.now }
@@ -22,7 +23,7 @@ fn open_nodes(nodes: &[u64], words: &mut [u32])
             position,
             left,
             right,
-        } = parts_in(*node);
+        } = Parts::from(*node);
         words[3 * i..3 * i + 3].copy_from_slice(&[position, left, right]);
     }
 }
@@ -54,12 +55,7 @@ fn close_nodes(tables: &Unpacked, nodes: &mut [u64])
     ensures { nodes.new ≡ packed_nodes (length tables.now.rows.signatures.now) tables.now.rows.links.now }
 {
     for node in 1..tables.rows.blocks() {
-        let Parts {
-            position,
-            left,
-            right,
-        } = tables.node(node);
-        set_node(nodes, node, position, left, right);
+        set_node(nodes, node, tables.node(node));
     }
 }
 

@@ -7,3 +7,4 @@ pub mod Filed
 pub mod Asked
 mod Planned
 mod Promised
+pub mod Packed

@@ -9,7 +9,6 @@ use mathlib.Core.Bool.{Bool, true, false, ◌&&◌}
 use lib.Dec.{eqb, leb, ltb}
 use borrow.Author.Tests.{ltb-true, ltb-false}
 use Rattle.std.specs.Prelude.{Option, None, Some}
-use Rattle.signature.proofs.Difference.{first_is}
 use Rattle.model.specs.Signature.{bit_at, first_difference}
 use Rattle.model.specs.Tables.{word, root_at, width_of, root_of, free_of, count_of, filed_of, signature_of}
 use Rattle.model.specs.Sound.{Sound}
@@ -68,15 +67,9 @@ module _ (t : Tables) (s : ℕ) (place : Place) (h a f F : ℕ) (is_f : f ≡ fr
         (omega (arith, width, w.width_from), omega (arith, width, w.width_to), rw (← width) at differ.0, ltb-true a (2 ^ F) small, λ e. differ.1 (sym e))
 
     module _ (d : ℕ) (is_d : d ≡ first_difference F s a) where
-      pub tested : (1 ≤ d) × (d ≤ F) × (F ≤ 64)
-      tested =
-          let w = differs in
-          let r = first_is F s a w.2 w.3 w.4 in
-          (omega (arith, is_d, r.low), omega (arith, is_d, r.high), w.1)
-
       -- side leads on the signatures that have the bit of s at position d
       module _ (set : Bool) (side : Side) (is_set : set ≡ eqb (bit_at F s d) 1) (is_side : (side_number side ≡ 1) ↔ (set ≡ true)) where
-        pub a_split : SplitPlan (blocks_held t) (width_of (held t)) (held t) s place h a (Some (Split place h f d side))
+        pub a_split : SplitPlan (blocks_held t) (width_of (held t)) (held t) s place h a (Some (Split (record { node = f; place = place; leaf = h; position = d; side = side })))
         a_split from to small =
             rw (← width, ← free, ← is_d) (side, side_of_bit F s d set side is_set is_side, refl)
 

@@ -18,7 +18,7 @@ abbrev pub PlanFits : ℕ → List ℕ → Option Plan → Type 0
 PlanFits B links None = Unit {0}
 PlanFits B links (Some First) = count_of links < B
 PlanFits B links (Some (Join h)) = (count_of links < B) × (1 ≤ h) × (h ≤ B)
-PlanFits B links (Some (Split place h f p side)) = (count_of links < B) × IsPlace B place × (1 ≤ f) × (f < B) × (h ≤ B) × (p ≤ 64)
+PlanFits B links (Some (Split n)) = (count_of links < B) × IsPlace B n.place × (1 ≤ n.node) × (n.node < B) × (n.leaf ≤ B) × (n.position ≤ 64)
 
 -- there is a plan
 abbrev pub is_plan : Option Plan → Bool
@@ -30,7 +30,7 @@ abbrev pub plan_stores : ℕ → List ℕ → ℕ → Option Plan → List Store
 plan_stores B links b None = []
 plan_stores B links b (Some First) = first_stores links b
 plan_stores B links b (Some (Join h)) = chain_stores links b h
-plan_stores B links b (Some (Split place h f p side)) = split_stores B links b (address_of B place) h f p (side_number side)
+plan_stores B links b (Some (Split n)) = split_stores B links b (address_of B n.place) n.leaf n.node n.position (side_number n.side)
 
 -- at a leaf h of another signature a, whose reference stands at this place: where there is a free node, the definition's split
 abbrev pub SplitPlan : ℕ → ℕ → List ℕ → ℕ → Place → ℕ → ℕ → Option Plan → Type 0
@@ -38,7 +38,7 @@ SplitPlan B F links s place h a plan =
     1 ≤ free_of links
     → free_of links < B
     → a < 2 ^ F
-    → (side : Side) × (side_number side ≡ bit_at F s (first_difference F s a)) × (plan ≡ Some (Split place h (free_of links) (first_difference F s a) side))
+    → (side : Side) × (side_number side ≡ bit_at F s (first_difference F s a)) × (plan ≡ Some (Split (record { node = free_of links; place = place; leaf = h; position = first_difference F s a; side = side })))
 
 -- on sound tables there is a plan for an unfiled block, and it leaves the links that File leaves
 abbrev pub Plans : List ℕ → List ℕ → ℕ → ℕ → Option Plan → Type 0

@@ -6,26 +6,28 @@ ghost use Rattle.tables.specs.Held.{blocks_held, held};
 ghost use Rattle.file.specs.Asking.{Passed};
 ghost use Rattle.file.specs.Plan.{PlanFits, SplitPlan, Plans};
 
-use tables::{Place, Side, Tables, front, walk};
+use tables::{Place, Side, Tables, front};
 
-// The first leaf; the block after the head of a chain; or the first free node in the place of a leaf, with the position that it tests
-// and the side of it that the block goes to.
+// The first leaf; the block after the head of a chain; or a new node.
 #[derive(Clone, Copy, Debug, PartialEq, Eq)]
 pub enum Plan {
     First,
-    Join {
-        head: u32,
-    },
-    Split {
-        place: Place,
-        leaf: u32,
-        node: u32,
-        position: u32,
-        side: Side,
-    },
+    Join { head: u32 },
+    Split(NewNode),
+}
+
+// The first free node in the place of a leaf, with the position that it tests and the side of it that the block goes to.
+#[derive(Clone, Copy, Debug, PartialEq, Eq)]
+pub struct NewNode {
+    pub node: u32,
+    pub place: Place,
+    pub leaf: u32,
+    pub position: u32,
+    pub side: Side,
 }
 
 // The first free node in the place of a leaf whose signature is another one. None for unfit tables.
+#[inline(always)]
 fn plan_split(tables: &Tables, signature: u64, place: Place, leaf: u32, other: u64) -> Option<Plan>
     requires differ { (signature < 2 ^ width_of (held tables.now)) × (other ≡ signature → ⊥) }
     requires inside { (count_of (held tables.now) < blocks_held tables.now) × IsPlace (blocks_held tables.now) place × (leaf ≤ blocks_held tables.now) }
@@ -35,21 +37,23 @@ fn plan_split(tables: &Tables, signature: u64, place: Place, leaf: u32, other: u
     let rows = tables.rows;
     let width = rows.width();
     let node = rows.first_free();
+    // a node is 1 to B - 1, as a block is 1 to B
     if !front::is_block(node, rows.blocks() - 1) || !signature::fits(other, width) {
         return None;
     }
     let position = signature::first_difference(signature, other, width);
-    let side = Side::of(signature::is_set(signature, width, position));
-    Some(Plan::Split {
+    let side = position.is_set(signature).into();
+    Some(Plan::Split(NewNode {
+        node,
         place,
         leaf,
-        node,
-        position,
+        position: position.number,
         side,
-    })
+    }))
 }
 
 // The plan of a filing that no question refuses. None for unfit tables.
+#[inline(always)]
 pub fn plan_filing(tables: &Tables, block: u32, signature: u64) -> Option<Plan>
     requires { Passed tables.now.rows.signatures.now (held tables.now) block signature }
     ensures plans { Plans tables.now.rows.signatures.now (held tables.now) block signature result }
@@ -63,7 +67,7 @@ pub fn plan_filing(tables: &Tables, block: u32, signature: u64) -> Option<Plan>
     if rows.root() == 0 {
         return Some(Plan::First);
     }
-    let walked = walk::walk(tables, signature)?;
+    let walked = tables.walk(signature)?;
     let leaf = walked.reference;
     if !front::is_block(leaf, blocks) {
         return None;

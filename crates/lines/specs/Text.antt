@@ -1,6 +1,6 @@
 -- The text of a line: numbers in decimal, single spaces between them, a line feed at the end.
 -- Assumes nothing.
-use Rattle.std.specs.Prelude.{ℕ, zero, suc, ◌+◌, ◌/◌, ◌%◌, true, false, ◌≡◌, List, [], ◌∷◌, ◌++◌, ltb, length}
+use Rattle.std.specs.Prelude.{ℕ, zero, suc, ◌+◌, ◌*◌, ◌/◌, ◌%◌, ◌≤◌, true, false, ◌≡◌, List, [], ◌∷◌, ◌++◌, ltb, length}
 use Rattle.std.proofs.lemmas.List.Edits.{sets}
 
 -- the ASCII digits of n in base ten, the most significant first; k bounds their number
@@ -20,6 +20,10 @@ spaced (n ∷ ns) = 32 ∷ decimal n ++ spaced ns
 -- the line of a number and those after it
 abbrev pub line_text : ℕ → List ℕ → List ℕ
 line_text n ns = decimal n ++ spaced ns ++ (10 ∷ [])
+
+-- after its first `at` bytes the text has room for any line that lists these blocks: 48 bytes, and 11 for each block
+abbrev pub HasRoom : List ℕ → ℕ → List ℕ → Type 0
+HasRoom text at blocks = at + 48 + 11 * length blocks ≤ length text
 
 -- The bytes were put from place `at` on, all of them, and `next` is the place after them.
 pub record Puts (before : List ℕ) (at : ℕ) (bytes : List ℕ) (next : ℕ) (after : List ℕ) : Type 0 where

@@ -4,12 +4,12 @@
 #![tactic(auto)]
 
 ghost use Rattle.std.specs.Prelude.{[], ◌∷◌, ◌+◌, ◌*◌, ◌≤◌, ◌<◌, length};
-ghost use Rattle.lines.specs.Text.{decimal, spaced, Puts};
+ghost use Rattle.lines.specs.Text.{decimal, spaced, HasRoom, Puts};
 ghost use Rattle.lines.specs.Line.{text_of};
 
 use answers::Report;
 
-// The report of a slip of this kind, and the blocks that a search lists.
+// A slip's first byte, whatever it is; the report, in the numbers that a line tells; and the blocks that a search lists.
 #[derive(Clone, Copy, Debug, PartialEq, Eq)]
 pub struct Line<'a> {
     pub kind: u8,
@@ -27,7 +27,8 @@ fn push(text: &mut [u8], at: usize, byte: u8) -> usize
 }
 
 // The digits of n.
-// Display stays out: a line always succeeds, and no clause of std says that `fmt` does where the text has room. Itoa takes a fifth longer.
+// `Display` stays out: a line always succeeds, and no clause of std says that `fmt` does where the text has room. The kit's crate `itoa`
+// proves, and takes a fifth longer.
 #[tactic(auto, using(crate::proofs::Laws::len_one, crate::proofs::Laws::len_more))]
 fn digits(text: &mut [u8], at: usize, n: u32) -> usize
     requires { at + length (decimal n) ≤ length text.old }
@@ -59,7 +60,7 @@ impl Line<'_> {
     // The line from place `at` on: the kind, the answer, the counts, the blocks. It takes at most 48 bytes and 11 for each block.
     #[tactic(auto, using(crate::proofs::Laws::decimal_byte))]
     pub fn put(&self, text: &mut [u8], at: usize) -> usize
-        requires { at + 48 + 11 * length self.now.blocks.now ≤ length text.old }
+        requires { HasRoom text.old at self.now.blocks.now }
         ensures puts { Puts text.old at (text_of self.now) result text.new }
         ensures short { result ≤ at + 48 + 11 * length self.now.blocks.now }
     {

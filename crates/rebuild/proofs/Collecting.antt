@@ -3,11 +3,11 @@
 -- Assumes nothing.
 use Prim.Native.Nat.{ℕ, zero, suc, ◌+◌, ◌-◌, ◌*◌, ◌≤◌, ◌<◌}
 use native.Mathlib.Omega.{arith}
-use mathlib.Core.Path.{◌≡◌, refl, ◌∙◌, ap}
+use mathlib.Core.Path.{◌≡◌, refl, sym, ◌∙◌, ap, ap₂}
 use mathlib.Core.Logic.{inl, inr}
-use mathlib.Core.List.{List, [], ◌∷◌, ◌++◌}
-use lib.ListN.{length, length-append}
-use lib.Seq.{sets}
+use mathlib.Core.List.{List, [], ◌∷◌, ◌++◌, append-nil, append_assoc}
+use lib.ListN.{length, take, drop, length-append, length-drop, drop_of_length-le}
+use lib.Seq.{sets, sets-eq, length-sets, take_all, drop-drop}
 use borrow.Author.Tests.{ne_eqb, le-leb, lt-leb}
 use Rattle.model.specs.Tables.{width_of, root_of, left_of, right_of}
 use Rattle.model.specs.Sound.{Shape, tip, fork, Holds, Rooted, none, some, HoldsRoot, PlacedRoot, Sound}
@@ -71,17 +71,37 @@ pub onward_count : (B : ℕ) (L : List ℕ) (n r : ℕ) → Onward B L n r
     → length (heads_from B L n r) ≡ length (heads_from B L (n - 1) (left_of B L (r - B))) + length (heads_from B L (n - 1) (right_of B L (r - B)))
 onward_count B L n r K = ap length K.heads ∙ length-append (heads_from B L (n - 1) (left_of B L (r - B))) (heads_from B L (n - 1) (right_of B L (r - B)))
 
--- what the two sides of a node leave
-pub onward_end : (B : ℕ) (L : List ℕ) (n r : ℕ) → Onward B L n r → (l l1 l2 : List ℕ) (at m end x y : ℕ) → x ≡ left_of B L (r - B) → y ≡ right_of B L (r - B)
-    → m ≡ at + length (heads_from B L (n - 1) x) → l1 ≡ sets l at (heads_from B L (n - 1) x)
-    → end ≡ m + length (heads_from B L (n - 1) y) → l2 ≡ sets l1 m (heads_from B L (n - 1) y)
-    → (end ≡ at + length (heads_from B L n r)) × (l2 ≡ sets l at (heads_from B L n r))
-onward_end B L n r K l l1 l2 at m end x y ex ey a b c d =
+-- what is written at the front of the rest of a list
+pub sets_rest : (l vs : List ℕ) (m : ℕ) → m + length vs ≤ length l → take m l ++ (sets (take (length l - m) (drop m l)) 0 vs ++ drop (length l - m) (drop m l)) ≡ sets l m vs
+sets_rest l vs m h =
+    let n = length-drop m l in
+    let whole : take (length l - m) (drop m l) ≡ drop m l = take_all (length l - m) (drop m l) (omega arith) in
+    let none : drop (length l - m) (drop m l) ≡ [] = drop_of_length-le (drop m l) {i = length l - m} (omega arith) in
+    let e : m + (0 + length vs) ≡ m + length vs = omega arith in
+    let front : sets (drop m l) 0 vs ≡ vs ++ drop (m + length vs) l = sets-eq vs (drop m l) 0 (omega arith) ∙ ap (λ (z : List ℕ). vs ++ z) (drop-drop (0 + length vs) m l ∙ ap (λ (k : ℕ). drop k l) e) in
+    rw (whole, none, front) (ap (λ (z : List ℕ). take m l ++ z) (append-nil (vs ++ drop (m + length vs) l)) ∙ sym (append_assoc (take m l) vs (drop (m + length vs) l)) ∙ sym (sets-eq vs l m h))
+
+-- what the two sides of a node leave: the right one's heads stand in the rest of the list
+pub onward_end : (B : ℕ) (L : List ℕ) (n r : ℕ) → Onward B L n r → (l l1 l2 : List ℕ) (m k x y : ℕ) → x ≡ left_of B L (r - B) → y ≡ right_of B L (r - B)
+    → length (heads_from B L n r) ≤ length l
+    → m ≡ length (heads_from B L (n - 1) x) → l1 ≡ sets l 0 (heads_from B L (n - 1) x)
+    → k ≡ length (heads_from B L (n - 1) y) → l2 ≡ sets (take (length l1 - m) (drop m l1)) 0 (heads_from B L (n - 1) y)
+    → (m + k ≡ length (heads_from B L n r)) × (take m l1 ++ (l2 ++ drop (length l1 - m) (drop m l1)) ≡ sets l 0 (heads_from B L n r))
+onward_end B L n r K l l1 l2 m k x y ex ey room a b c d =
     let hl : List ℕ = heads_from B L (n - 1) (left_of B L (r - B)) in
     let hr : List ℕ = heads_from B L (n - 1) (right_of B L (r - B)) in
     let el : heads_from B L (n - 1) x ≡ hl = ap (heads_from B L (n - 1)) ex in
     let er : heads_from B L (n - 1) y ≡ hr = ap (heads_from B L (n - 1)) ey in
-    let s = sets_append l at hl hr in
-    let k = K.heads in
-    let z : m ≡ at + length hl = a ∙ ap (λ (q : List ℕ). at + length q) el in
-    (omega (arith, onward_count B L n r K, ap length el, ap length er), (cc))
+    let whole = onward_count B L n r K in
+    let ml : m ≡ 0 + length hl = omega (arith, ap length el) in
+    let kr : k ≡ length hr = c ∙ ap length er in
+    let long : length l1 ≡ length l = ap length b ∙ length-sets l 0 (heads_from B L (n - 1) x) in
+    let first : l1 ≡ sets l 0 hl = b ∙ ap (sets l 0) el in
+    let second : l2 ≡ sets (take (length l1 - m) (drop m l1)) 0 hr = d ∙ ap (sets (take (length l1 - m) (drop m l1)) 0) er in (
+      omega arith,
+      ap (λ (z : List ℕ). take m l1 ++ (z ++ drop (length l1 - m) (drop m l1))) second
+          ∙ sets_rest l1 hr m (omega arith)
+          ∙ ap₂ (λ (z : List ℕ) (i : ℕ). sets z i hr) first ml
+          ∙ sym (sets_append l 0 hl hr)
+          ∙ ap (sets l 0) (sym K.heads),
+    )

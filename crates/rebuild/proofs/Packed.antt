@@ -1,6 +1,6 @@
 -- The four ways in which a rebuild of packed tables ends, by those of the tables that they hold, and what it knows of tables that it reads.
 -- Assumes nothing.
-use Prim.Native.Nat.{ℕ, ◌+◌, ◌≤◌, ◌<◌}
+use Prim.Native.Nat.{ℕ, ◌≤◌, ◌<◌}
 use mathlib.Core.Path.{◌≡◌, refl, sym, ◌∙◌, ap}
 use mathlib.Core.Bool.{Bool, true, false, ◌&&◌}
 use mathlib.Core.List.{List, []}
@@ -12,7 +12,6 @@ use Rattle.answers.specs.declared.refusal.Refusal.{Refusal}
 use Rattle.answers.specs.Answers.{number_of, answer_of}
 use Rattle.model.specs.Limits.{widest}
 use Rattle.model.specs.Tables.{width_of, root_of}
-use Rattle.model.specs.Sound.{FitsAt}
 use Rattle.model.specs.Rebuild.{heads_from}
 use Rattle.tables.specs.Fits.{FitsPacked}
 use Rattle.tables.proofs.Fits.{fits_of}
@@ -67,10 +66,10 @@ module _ (sigs links nodes scratch : List ℕ) where
           let n = number_some r in
           rw (passed_on a r on) (whole (answers_unsound sigs U scratch both_yes.1 room (number_of r) A (λ z. omega arith)) stays)
 
-      pub rebuilt_packed : Sound sigs (unpacked links nodes) → Packs (length sigs) links nodes → (links' nodes' scratch' : List ℕ) → unpacked links' nodes' ≡ rebuild_links sigs (unpacked links nodes)
+      pub rebuilt_packed_is : Sound sigs (unpacked links nodes) → Packs (length sigs) links nodes → (links' nodes' scratch' : List ℕ) → unpacked links' nodes' ≡ rebuild_links sigs (unpacked links nodes)
           → length links' ≡ length links → length nodes' ≡ length nodes → length scratch' ≡ length scratch → drop (length sigs) scratch' ≡ drop (length sigs) scratch
           → PackedRebuild sigs links nodes scratch 0 links' nodes' scratch'
-      rebuilt_packed S P links' nodes' scratch' e l n k b =
+      rebuilt_packed_is S P links' nodes' scratch' e l n k b =
           whole (answers_rebuilt sigs U scratch both_yes.1 room S (unpacked links' nodes') scratch' e k b) (stays_by (length sigs) links nodes links' nodes' P l n 0 (λ h. absurd (h refl)))
 
 -- Tables S, L and N that are read of the slices, of which the audit says yes.
@@ -78,8 +77,8 @@ module _ {sigs links nodes S L N : List ℕ} (same : (S ≡ sigs) × (L ≡ link
   pub read_packs : Packs (length sigs) links nodes
   read_packs = rw (← same.0, ← same.1, ← same.2) fits.packs
 
-  pub read_promise : {answer : ℕ} → (FitsAt (length S) (width_of (unpacked L N)) S (unpacked L N) → AuditPromise S (unpacked L N) answer) → AuditPromise sigs (unpacked links nodes) answer
-  read_promise told = rw (← same.0, ← same.1, ← same.2) (told fits.fits)
+  pub read_promise : {answer : ℕ} → AuditPromise S (unpacked L N) answer → AuditPromise sigs (unpacked links nodes) answer
+  read_promise told = rw (← same.0, ← same.1, ← same.2) told
 
   pub read_width : {w : ℕ} → w ≡ width_of L → w ≡ width_of links
   read_width e = e ∙ ap width_of same.1
@@ -87,21 +86,22 @@ module _ {sigs links nodes S L N : List ℕ} (same : (S ≡ sigs) × (L ≡ link
   pub read_is_width : {w : ℕ} → w ≡ width_of L → (1 ≤ w) × (w ≤ widest)
   read_is_width e = rw (e, ← width_read S L N fits.packs) (fits.fits.width_from, fits.fits.width_to)
 
-  module _ (told : FitsAt (length S) (width_of (unpacked L N)) S (unpacked L N) → AuditPromise S (unpacked L N) 0) where
+  module _ (told : AuditPromise S (unpacked L N) 0) where
     pub read_sound : Sound sigs (unpacked links nodes)
-    read_sound = rw (← same.0, ← same.1, ← same.2) (is_sound S (unpacked L N) [] ((fits_of S (unpacked L N)).1 fits.fits) 0 (told fits.fits) refl)
+    read_sound = rw (← same.0, ← same.1, ← same.2) (is_sound S (unpacked L N) [] ((fits_of S (unpacked L N)).1 fits.fits) 0 told refl)
 
     module _ {w r : ℕ} (width : w ≡ width_of L) (root : r ≡ root_of L) where
       -- what the walk asks
       pub read_walk : Walkable (length S) (unpacked L N) w r
       read_walk = rw (width, root, same.0, same.1, same.2) (walk_read sigs links nodes read_packs read_sound)
 
-      pub read_room : (l : List ℕ) → length sigs ≤ length l → 0 + length (heads_from (length S) (unpacked L N) w r) ≤ length l
+      pub read_room : (l : List ℕ) → length sigs ≤ length l → length (heads_from (length S) (unpacked L N) w r) ≤ length l
       read_room l room =
           rw (width, root, same.0, same.1, same.2) (omega (arith, heads_fit sigs (unpacked links nodes) read_sound, ap length (heads_read sigs links nodes read_packs)))
 
       -- and leaves
-      pub read_heads : (l l1 : List ℕ) (d : ℕ) → length sigs ≤ length l → d ≡ 0 + length (heads_from (length S) (unpacked L N) w r) → l1 ≡ sets l 0 (heads_from (length S) (unpacked L N) w r)
+      pub read_heads : (l l1 : List ℕ) (d : ℕ) → length sigs ≤ length l → d ≡ length (heads_from (length S) (unpacked L N) w r) → l1 ≡ sets l 0 (heads_from (length S) (unpacked L N) w r)
           → Collected sigs (unpacked links nodes) l l1 d
       read_heads l l1 d room count list =
-          gathered sigs links nodes read_packs read_sound l l1 d room (rw (width, root, same.0, same.1, same.2) at count) (rw (width, root, same.0, same.1, same.2) at list)
+          let n : d ≡ length (heads_from (length sigs) (unpacked links nodes) (width_of links) (root_of links)) = rw (width, root, same.0, same.1, same.2) at count in
+          gathered sigs links nodes read_packs read_sound l l1 d room (omega arith) (rw (width, root, same.0, same.1, same.2) at list)

@@ -29,7 +29,7 @@ pub fn rebuild(
     audit::sound(&tables)?;
     let blocks = signatures.len();
     let width = tables.rows.width();
-    let heads = collect(&tables, scratch, tables.rows.root(), width, 0);
+    let heads = collect(&tables, scratch, tables.rows.root(), width);
     let first = heads.max(1);
     links[address::ROOT] = split::reference(heads, scratch[0], blocks + 1);
     links[address::FREE] = free::free_from(blocks, first);

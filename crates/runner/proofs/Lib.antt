@@ -1,3 +1,4 @@
 pub mod Turns
+pub mod Taken
 pub mod Right
 pub mod Same

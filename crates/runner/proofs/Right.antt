@@ -16,7 +16,10 @@ use Rattle.model.specs.Claim.{Begins, Claim}
 use Rattle.model.specs.SameQuote.{Ran, packed_run}
 use Rattle.lists.proofs.Packed.{packed_demand, from_sigrun}
 use Rattle.sigtree.specs.Face.{lent}
-use Rattle.runner.specs.Served.{InTurn, none, after}
+use Rattle.std.specs.Prelude.{Option}
+use Rattle.runner.specs.Served.{InTurn, none, after, slips_of, Took}
+use Rattle.runner.specs.declared.program.Index.{Index}
+use Rattle.runner.specs.Indexed.{memory_of, zeros}
 use Rattle.runner.specs.Steps.{steps_of}
 
 -- the tables that a list of steps leaves, from these
@@ -60,3 +63,8 @@ pub sigrun_right : (scratch marks output : List ℕ) (M' : PackedMemory) (slips 
     → (r : InTurn (lent (replicate 1024 0) (replicate 2053 0) (replicate 1023 0) scratch marks output) slips text M')
     → Claim (empty_ledger 1024 0) nothing (replicate 1024 0) (unpacked (replicate 2053 0) (replicate 1023 0)) (held_steps (steps_of r))
 sigrun_right scratch marks output M' slips text r = from_sigrun (steps_of r) (run_of _ M' slips text r)
+
+-- and of the program, whatever its reader gave
+pub program_right : (b b₁ : Option (List ℕ)) (index : Index) (t : Took b b₁ zeros (memory_of index))
+    → Claim (empty_ledger 1024 0) nothing (replicate 1024 0) (unpacked (replicate 2053 0) (replicate 1023 0)) (held_steps (steps_of t.turns))
+program_right b b₁ index t = sigrun_right (replicate 1024 0) (replicate 1024 0) (replicate 1024 0) (memory_of index) (slips_of t.bytes) t.text t.turns

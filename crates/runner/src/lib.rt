@@ -1,37 +1,45 @@
 // Serves slips from a reader and writes a line for each. The slices are the caller's: the tables, those to work in, a buffer of input
-// and a buffer of text. A line is written as soon as its slip is complete, and no byte of it is dropped.
+// and a buffer of text. A line is written as soon as its slip is complete, and no byte of it is dropped. (What the functions hand on stays
+// parameters, with the text's room and the loans in each contract: a struct of them would hold `&mut`s, beside which the check covers no ghost
+// field, and would have to say in each contract that it holds the same slices.)
 #![tactic(auto)]
 
 mod input;
 mod program;
 mod text;
 
-ghost use Rattle.std.specs.Prelude.{◌∷◌, ◌+◌, ◌-◌, ◌*◌, ◌≤◌, ◌<◌, length, take};
-ghost use Rattle.lines.specs.Text.{line_text, Puts};
+ghost use Rattle.std.specs.Prelude.{◌+◌, ◌*◌, ◌≤◌, ◌<◌, length, take, IfOk};
+ghost use Rattle.answers.specs.Answers.{report_of};
+ghost use Rattle.lines.specs.Text.{HasRoom, Puts};
 ghost use Rattle.tables.specs.Changed.{SameLoans};
 ghost use Rattle.sigtree.specs.Held.{lent_in, SameWork};
-ghost use Rattle.runner.specs.Served.{Served, Batched, Drained, Ended, Ran};
+ghost use Rattle.runner.specs.Served.{line_with, Served, Batched, Drained, Ended, Whole, Took, Ran};
 
-use answers::Report;
+use answers::{Counts, Refusal};
 use lines::Line;
-pub use program::sigrun;
+pub use program::{Index, sigrun};
 use sigtree::Work;
+use slips::SLIP;
 use std::io::{Read, Write};
 use tables::TablesMut;
 
-// How long a slip is.
-const SLIP: usize = 16;
-
-// Puts the line of a report and the blocks at the front of the output after the first `at` bytes of the text.
-fn put_line(text: &mut [u8], at: usize, kind: u8, report: Report, output: &[u32]) -> usize
-    requires { (report.counts.found ≤ length output.now) × (at + 48 + 11 * length output.now ≤ length text.old) }
-    ensures puts { Puts text.old at (line_text kind (report.answer ∷ report.counts.found ∷ report.counts.compares ∷ report.counts.bits ∷ take report.counts.found output.now)) result text.new }
+// Puts the line of an outcome and the blocks at the front of the output after the first `at` bytes of the text.
+fn put_line(
+    text: &mut [u8],
+    at: usize,
+    kind: u8,
+    outcome: Result<Counts, Refusal>,
+    output: &[u32],
+) -> usize
+    requires { IfOk outcome (λ counts. counts.found ≤ length output.now) × HasRoom text.old at output.now }
+    ensures puts { Puts text.old at (line_with kind (report_of outcome) output.now) result text.new }
     ensures short { result ≤ at + 48 + 11 * length output.now }
 {
+    let found = outcome.unwrap_or_default().found as usize;
     let line = Line {
         kind,
-        report,
-        blocks: &output[..report.counts.found as usize],
+        report: outcome.into(),
+        blocks: &output[..found],
     };
     line.put(text, at)
 }
@@ -44,13 +52,13 @@ fn serve_one(
     text: &mut [u8],
     at: usize,
 ) -> usize
-    requires { (0 < length slip.now) × (at + 48 + 11 * length work.old.output.now ≤ length text.old) }
+    requires { (0 < length slip.now) × HasRoom text.old at work.old.output.now }
     ensures served { Served slip.now (lent_in tables.old work.old) (lent_in tables.new work.new) text.old at result text.new }
     ensures loans { SameLoans tables.old tables.new × SameWork work.old work.new }
 {
     let outcome = sigtree::carry_out(slip, tables, work);
     let output = &mut *work.output;
-    put_line(text, at, slip[0], Report::from(outcome), output)
+    put_line(text, at, slip[0], outcome, output)
 }
 
 // Where a batch of slips ends, and how many bytes of text their lines are.
@@ -60,74 +68,95 @@ struct BatchEnd {
     used: usize,
 }
 
-// Serves slips from byte `from` on, while there are any before `end` and the text has room for a line. (Where the batch ends is told by the
-// same count that cuts the slips, so that chunks would be no plainer.)
-fn batch(
-    tables: &mut TablesMut,
-    work: &mut Work,
-    bytes: &[u8],
-    from: usize,
-    end: usize,
-    text: &mut [u8],
-) -> BatchEnd
-    requires { (from ≤ end) × (end ≤ length bytes.now) × (48 + 11 * length work.old.output.now ≤ length text.old) }
-    ensures served { Batched bytes.now from end (lent_in tables.old work.old) (lent_in tables.new work.new) result.at result.used text.new }
-    ensures some { 16 ≤ end - from → from < result.at }
+// Serves slips from the front of the bytes on, while there are any and the text has room for a line. (Over chunks, the loop would leave by a
+// test inside where the room ends, and count the bytes served beside them all the same.)
+fn batch(tables: &mut TablesMut, work: &mut Work, bytes: &[u8], text: &mut [u8]) -> BatchEnd
+    requires { HasRoom text.old 0 work.old.output.now }
+    ensures served { Batched bytes.now (lent_in tables.old work.old) (lent_in tables.new work.new) result.at result.used text.new }
+    ensures some { 16 ≤ length bytes.now → 0 < result.at }
     ensures loans { SameLoans tables.old tables.new × SameWork work.old work.new }
 {
     let most = 48 + 11 * work.output.len();
-    let mut at = from;
+    let mut at = 0;
     let mut used = 0;
-    while end - at >= SLIP && text.len() - used >= most {
+    while bytes.len() - at >= SLIP && text.len() - used >= most {
         used = serve_one(tables, work, &bytes[at..at + SLIP], text, used);
         at += SLIP;
     }
     BatchEnd { at, used }
 }
 
-// Serves every whole slip of the first `end` bytes of input, and answers where the rest begins: it goes on where a batch ended.
+// Serves every whole slip of the bytes, and answers where the rest begins. How far a batch went is told by the batch, so no iterator over
+// slips serves the loop.
 fn drain<W: Write>(
     writer: &mut W,
     tables: &mut TablesMut,
     work: &mut Work,
     bytes: &[u8],
-    end: usize,
     text: &mut [u8],
 ) -> usize
-    requires { (end ≤ length bytes.now) × (48 + 11 * length work.old.output.now ≤ length text.old) }
-    ensures drained { Drained bytes.now end (lent_in tables.old work.old) (lent_in tables.new work.new) result }
+    requires { HasRoom text.old 0 work.old.output.now }
+    ensures drained { Drained bytes.now (lent_in tables.old work.old) (lent_in tables.new work.new) result }
     ensures loans { SameLoans tables.old tables.new × SameWork work.old work.new }
 {
     let mut at = 0;
-    while end - at >= SLIP {
-        let served = batch(tables, work, bytes, at, end, text);
-        text::flush(writer, text, served.used);
-        at = served.at;
+    while bytes.len() - at >= SLIP {
+        let served = batch(tables, work, &bytes[at..], text);
+        text::flush(writer, &text[..served.used]);
+        at += served.at;
     }
     at
 }
 
-// The last slip, which is short: the bytes that are left.
+// The last slip, which is short, unless no byte is left.
 fn last<W: Write>(
     writer: &mut W,
     tables: &mut TablesMut,
     work: &mut Work,
-    bytes: &[u8],
-    kept: usize,
+    slip: &[u8],
     text: &mut [u8],
 )
-    requires { (kept ≤ length bytes.now) × (48 + 11 * length work.old.output.now ≤ length text.old) }
-    ensures ended { Ended bytes.now kept (lent_in tables.old work.old) (lent_in tables.new work.new) }
+    requires { HasRoom text.old 0 work.old.output.now }
+    ensures ended { Ended slip.now (lent_in tables.old work.old) (lent_in tables.new work.new) }
     ensures loans { SameLoans tables.old tables.new × SameWork work.old work.new }
 {
-    if kept == 0 {
+    if slip.is_empty() {
         return;
     }
-    let used = serve_one(tables, work, &bytes[..kept], text, 0);
-    text::flush(writer, text, used);
+    let used = serve_one(tables, work, slip, text, 0);
+    text::flush(writer, &text[..used]);
 }
 
-// Serves slips until the input ends. Nothing says that it ends, so the loop counts its turns to a number that no run comes to.
+// Serves every whole slip until the input ends, and answers how many bytes are left, at the front (their part of the buffer, handed back,
+// would keep it lent). Nothing says that the input ends, so the
+// loop counts its turns to a number that no run comes to.
+fn serve_whole<R: Read, W: Write>(
+    reader: &mut R,
+    writer: &mut W,
+    tables: &mut TablesMut,
+    work: &mut Work,
+    bytes: &mut [u8],
+    text: &mut [u8],
+) -> usize
+    requires { HasRoom text.old 0 work.old.output.now }
+    ensures whole { Whole (R.remaining reader.old) (R.remaining reader.new) (lent_in tables.old work.old) (lent_in tables.new work.new) (take result bytes.new) }
+    ensures inside { result ≤ length bytes.new }
+    ensures loans { SameLoans tables.old tables.new × SameWork work.old work.new }
+{
+    let mut kept = 0;
+    for _ in 0..u64::MAX {
+        let read = input::fill(reader, &mut bytes[kept..]);
+        if read == 0 {
+            return kept;
+        }
+        let end = kept + read;
+        let from = drain(writer, tables, work, &bytes[..end], text);
+        kept = input::shift(&mut bytes[..end], from);
+    }
+    kept
+}
+
+// Serves slips until the input ends. (What is written has no clause: see `flush`.)
 fn serve_all<R: Read, W: Write>(
     reader: &mut R,
     writer: &mut W,
@@ -136,23 +165,17 @@ fn serve_all<R: Read, W: Write>(
     bytes: &mut [u8],
     text: &mut [u8],
 )
-    requires { 48 + 11 * length work.old.output.now ≤ length text.old }
-    ensures ran { Ran (lent_in tables.old work.old) (lent_in tables.new work.new) }
+    requires { HasRoom text.old 0 work.old.output.now }
+    ensures took { Took (R.remaining reader.old) (R.remaining reader.new) (lent_in tables.old work.old) (lent_in tables.new work.new) }
     ensures loans { SameLoans tables.old tables.new × SameWork work.old work.new }
 {
-    let mut kept = 0;
-    for _ in 0..u64::MAX {
-        let end = input::fill(reader, bytes, kept);
-        if end == kept {
-            last(writer, tables, work, bytes, kept, text);
-            return;
-        }
-        let from = drain(writer, tables, work, bytes, end, text);
-        kept = input::shift(bytes, from, end);
-    }
+    let kept = serve_whole(reader, writer, tables, work, bytes, text);
+    last(writer, tables, work, &bytes[..kept], text);
 }
 
-// Serves the slips of the reader. A text that has no room for a line serves none.
+// Serves the slips of the reader. A text that has no room for a line serves none. (The room is divided: a product of any length might not
+// fit a word.)
+#[tactic(auto, using(crate::proofs::Turns::ran_none, crate::proofs::Taken::took_none, crate::proofs::Taken::ran_took))]
 pub fn serve<R: Read, W: Write>(
     reader: &mut R,
     writer: &mut W,
@@ -161,6 +184,7 @@ pub fn serve<R: Read, W: Write>(
     bytes: &mut [u8],
     text: &mut [u8],
 )
+    ensures took { Took (R.remaining reader.old) (R.remaining reader.new) (lent_in tables.old work.old) (lent_in tables.new work.new) }
     ensures ran { Ran (lent_in tables.old work.old) (lent_in tables.new work.new) }
     ensures loans { SameLoans tables.old tables.new × SameWork work.old work.new }
 {

@@ -1,35 +1,71 @@
 // The program sigrun. Its crates `sigrun`, `sigrun_random` and `sigrun_empty` are this program on other inputs.
-use crate::serve;
+ghost use Rattle.std.specs.Prelude.{◌≡◌};
+ghost use Rattle.runner.specs.Served.{Took};
+ghost use Rattle.runner.specs.Indexed.{memory_of, zeros};
+
+use crate::serve_all;
 use sigtree::Work;
 use std::io::{Read, Write};
 use tables::TablesMut;
 
-// Serves slips on an index of 1,024 blocks, all words 0 at the start, and prints a line for each.
-pub fn sigrun<R: Read, W: Write>(reader: &mut R, writer: &mut W) {
-    let mut signatures = [0u64; 1024];
-    let mut links = [0u32; 2053];
-    let mut nodes = [0u64; 1023];
-    let mut scratch = [0u32; 1024];
-    let mut marks = [0u8; 1024];
-    let mut output = [0u32; 1024];
-    let mut input = [0u8; 65536];
-    let mut text = [0u8; 65536];
-    let mut tables = TablesMut {
-        signatures: &mut signatures,
-        links: &mut links,
-        nodes: &mut nodes,
-    };
-    let mut work = Work {
-        scratch: &mut scratch,
-        marks: &mut marks,
-        output: &mut output,
-    };
-    serve(
-        reader,
-        writer,
-        &mut tables,
-        &mut work,
-        &mut input,
-        &mut text,
-    );
+// An index of 1,024 blocks, with the slices that its calls borrow.
+#[derive(Drop)]
+pub struct Index {
+    pub signatures: [u64; 1024],
+    pub links: [u32; 2053],
+    pub nodes: [u64; 1023],
+    pub scratch: [u32; 1024],
+    pub marks: [u8; 1024],
+    pub output: [u32; 1024],
+}
+
+impl Index {
+    // The index whose words are all 0.
+    fn zeroed() -> Index
+        ensures { memory_of result ≡ zeros }
+    {
+        Index {
+            signatures: [0; 1024],
+            links: [0; 2053],
+            nodes: [0; 1023],
+            scratch: [0; 1024],
+            marks: [0; 1024],
+            output: [0; 1024],
+        }
+    }
+
+    // Serves the reader's slips on the index, and prints a line for each.
+    fn serve<R: Read, W: Write>(&mut self, reader: &mut R, writer: &mut W)
+        ensures { Took (R.remaining reader.old) (R.remaining reader.new) (memory_of self.old) (memory_of self.new) }
+    {
+        let mut input = [0u8; 65536];
+        let mut text = [0u8; 65536];
+        let mut tables = TablesMut {
+            signatures: &mut self.signatures,
+            links: &mut self.links,
+            nodes: &mut self.nodes,
+        };
+        let mut work = Work {
+            scratch: &mut self.scratch,
+            marks: &mut self.marks,
+            output: &mut self.output,
+        };
+        serve_all(
+            reader,
+            writer,
+            &mut tables,
+            &mut work,
+            &mut input,
+            &mut text,
+        );
+    }
+}
+
+// Serves the reader's slips on an index whose words are all 0 at the start, prints a line for each, and answers the index as it is then.
+pub fn sigrun<R: Read, W: Write>(reader: &mut R, writer: &mut W) -> Index
+    ensures { Took (R.remaining reader.old) (R.remaining reader.new) zeros (memory_of result) }
+{
+    let mut index = Index::zeroed();
+    index.serve(reader, writer);
+    index
 }

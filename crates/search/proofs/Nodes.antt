@@ -11,6 +11,7 @@ use lib.Dec.{eqb}
 use lib.ListN.{length, get_or}
 use borrow.Author.Tests.{eqb-true, eqb-false, le-leb, lt-leb}
 use Rattle.model.specs.Basics.{pick}
+use Rattle.model.specs.Limits.{most_blocks}
 use Rattle.model.specs.Tables.{width_of}
 use Rattle.model.specs.Packed.{position_in, left_in, right_in, unpacked, Packs}
 use Rattle.model.proofs.Packing.{front_word, node_position, node_left, node_right}
@@ -129,7 +130,7 @@ word_spent sigs links q w l m (suc u) e = sym (node_spent (walk_twin u sigs link
 -- Where a walk stands before it visits the sides x and y of a node: u positions are untested and l is left.
 pub record AtNode (sigs links nodes : List ℕ) (q w u : ℕ) (l : Budget) (m : List ℕ) (x y : ℕ) : Type 0 where
   pub packs : Packs (length sigs) links nodes
-  pub few : length sigs ≤ 65535
+  pub few : length sigs ≤ most_blocks
   pub room : length sigs ≤ length m
   pub untested : u ≡ 0 → ⊥
   pub some : l.nodes ≡ 0 → ⊥
@@ -137,9 +138,14 @@ pub record AtNode (sigs links nodes : List ℕ) (q w u : ℕ) (l : Budget) (m : 
   pub left : x ≡ left_in w
   pub right : y ≡ right_in w
 
-pub at_node : {sigs links nodes : List ℕ} {q w u : ℕ} {l : Budget} {m : List ℕ} {x y : ℕ} → FitsPacked sigs links nodes → length sigs ≤ length m → (u ≡ 0 → ⊥) → (l.nodes ≡ 0 → ⊥) → Forking l → x ≡ left_in w → y ≡ right_in w
+pub at_node : {sigs links nodes : List ℕ} {q w u : ℕ} {l : Budget} {m : List ℕ} {x y : ℕ} → Packs (length sigs) links nodes → length sigs ≤ most_blocks → length sigs ≤ length m → (u ≡ 0 → ⊥) → (l.nodes ≡ 0 → ⊥) → Forking l → x ≡ left_in w → y ≡ right_in w
     → AtNode sigs links nodes q w u l m x y
-at_node t s u n f x y = record { packs = t.packs; few = t.fits.blocks_to; room = s; untested = u; some = n; forking = f; left = x; right = y }
+at_node p b s u n f x y = record { packs = p; few = b; room = s; untested = u; some = n; forking = f; left = x; right = y }
+
+-- the same of tables that fit
+pub fit_node : {sigs links nodes : List ℕ} {q w u : ℕ} {l : Budget} {m : List ℕ} {x y : ℕ} → FitsPacked sigs links nodes → length sigs ≤ length m → (u ≡ 0 → ⊥) → (l.nodes ≡ 0 → ⊥) → Forking l → x ≡ left_in w → y ≡ right_in w
+    → AtNode sigs links nodes q w u l m x y
+fit_node t = at_node t.packs t.fits.blocks_to
 
 module _ {sigs links nodes : List ℕ} {q w u : ℕ} {l : Budget} {m : List ℕ} {x y : ℕ} (A : AtNode sigs links nodes q w u l m x y) where
   -- what a side does

@@ -1,6 +1,7 @@
 // What a search may still do, as one number: 32 bits for nodes, 16 each for forks and blocks. So a walk hands its whole state on in one
 // register, and counting down needs no sums. A fork is a node at which the query goes both ways; the compares are one more than the
-// forks, so a leaf counts nothing. A search is lent a fork more than it can need: one with no fork left says that the tables are unfit.
+// forks, so a leaf counts nothing. A search is lent a fork more than it can need: a search that has
+// none left says that the tables are unfit.
 ghost use Rattle.std.specs.Prelude.{◌≡◌, ◌≤◌, ◌<◌};
 ghost use Rattle.search.specs.Budget.{unfit, lent, node_less, fork_less, block_less};
 
@@ -68,7 +69,7 @@ impl Budget {
         self.0 / BLOCK
     }
 
-    // One node less.
+    // One node less. (Three functions for the three counts: of one that is handed what to take, the clause would name all three.)
     pub fn take_node(self) -> Budget
         requires { 0 < self.nodes }
         ensures { result ≡ node_less self }

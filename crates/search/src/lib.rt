@@ -9,7 +9,7 @@ mod walk;
 ghost use Rattle.std.specs.Prelude.{◌≡◌, ◌-◌, ◌≤◌, length, leb, IfOk};
 ghost use Rattle.answers.specs.Answers.{answer_of, report_of};
 ghost use Rattle.model.specs.Questions.{ask};
-ghost use Rattle.model.specs.Packed.{unpacked};
+ghost use Rattle.tables.specs.Held.{held};
 ghost use Rattle.model.specs.PackedPromises.{PackedSearch};
 ghost use Rattle.search.specs.Queries.{blocks_in};
 ghost use Rattle.search.specs.Search.{found_twin};
@@ -44,7 +44,7 @@ fn used(blocks: usize, left: u64) -> u32
 // A search that no question refuses.
 fn find(query: &Query, marks: &mut [u8], output: &mut [u32]) -> Result<Counts, Refusal>
     requires { (blocks_in query.now ≤ length marks.old) × (blocks_in query.now ≤ length output.old) }
-    ensures gives { (report_of result, marks.new, output.new) ≡ found_twin query.now.tables.rows.signatures.now (unpacked query.now.tables.rows.links.now query.now.tables.nodes.now) query.now.bits marks.old output.old }
+    ensures gives { (report_of result, marks.new, output.new) ≡ found_twin query.now.tables.rows.signatures.now (held query.now.tables) query.now.bits marks.old output.old }
     ensures found { IfOk result (λ c. c.found ≤ length output.new) }
 {
     let rows = &query.tables.rows;
@@ -66,7 +66,8 @@ fn find(query: &Query, marks: &mut [u8], output: &mut [u32]) -> Result<Counts, R
     })
 }
 
-// Lists the filed blocks whose signatures cover the query. The slices come one by one: some are lent to be read only.
+// Lists the filed blocks whose signatures cover the query. The slices come one by one, as C lends them; those of the tables are `Tables`
+// once question 4 says yes.
 pub fn search(
     signatures: &[u64],
     links: &[u32],

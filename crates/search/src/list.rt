@@ -9,7 +9,7 @@ use crate::marking::{Marks, RUN};
 
 // Lists the marked ones of the blocks after the first `from`, up to block `to`; n are listed already. A word is written before it is
 // known whether its block is marked: while fewer than `found` are listed, a marked block is still to come and takes its place.
-pub fn list_blocks(
+fn list_blocks(
     marks: &Marks,
     output: &mut [u32],
     from: usize,
@@ -34,9 +34,10 @@ pub fn list_blocks(
     n
 }
 
-// The same of 64 blocks, where at least 64 more are to be listed: fewer than `found` are listed before each of the blocks. So the count is
-// not tested, and a run with many marks is listed with no branch but the loop's own. (`found` is there for the contract.)
-pub fn list_whole_run(
+// The same of 64 blocks, where at least 64 more are to be listed: fewer than `found` are listed before each of the blocks. It stands beside
+// `list_blocks` for speed: its loop does not test the count. Without it a search takes up to a quarter longer (two bits set, on the
+// clock-like record of docs/PERFORMANCE.md). (`found` is there for the contract.)
+fn list_whole_run(
     marks: &Marks,
     output: &mut [u32],
     from: usize,
@@ -58,13 +59,7 @@ pub fn list_whole_run(
 }
 
 // The same of 64 blocks, where none of them is looked at by itself if none is marked.
-pub fn list_run(
-    marks: &Marks,
-    output: &mut [u32],
-    from: usize,
-    listed: usize,
-    found: usize,
-) -> usize
+fn list_run(marks: &Marks, output: &mut [u32], from: usize, listed: usize, found: usize) -> usize
     requires { (from + 64 ≤ 65535) × (from + 64 ≤ length marks.now.bytes.now) × (found ≤ length output.old) }
     ensures { ListedPart marks.now.bytes.now found from listed output.old (from + 64) result output.new }
 {

@@ -6,7 +6,8 @@ ghost use Rattle.search.specs.Marks.{SameLoan, is_marked, mark, cleared};
 // how many blocks are looked at together
 pub const RUN: usize = 64;
 
-// The bytes that a search is lent.
+// The bytes that a search is lent. That they have room for all blocks stands in the clauses of `Query`'s methods and not here: a ghost
+// field beside a `&mut` is not covered by the check.
 #[derive(Drop)]
 pub struct Marks<'a> {
     pub bytes: &'a mut [u8],

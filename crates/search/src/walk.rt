@@ -1,6 +1,6 @@
 // The walk of a search: from a reference down, right only where the query has a 1. It is safe on any tables that fit, and ends on them:
 // untested positions and nodes left fall at each call, blocks left at each block of a chain.
-ghost use Rattle.std.specs.Prelude.{◌≡◌, ℕ, true, false, ◌+◌, ◌^◌, ◌≤◌, ◌<◌, eqb, ltb, length, IfOk};
+ghost use Rattle.std.specs.Prelude.{◌≡◌, true, false, ◌+◌, ◌^◌, ◌≤◌, ◌<◌, eqb, ltb, length, IfOk};
 ghost use Rattle.answers.specs.Answers.{answer_of};
 ghost use Rattle.model.specs.Questions.{ask};
 ghost use Rattle.model.specs.Signature.{coversb};
@@ -25,8 +25,8 @@ pub struct Query<'a> {
     pub ghost low: { bits < 2 ^ width_of tables.rows.links.now },
 }
 
-// The index of a leaf's signature; for reference 0 one that no slice has. One comparison with it tells a leaf from a node and from no
-// reference.
+// The index of a leaf's signature; for reference 0 one that no slice has. It stays a number, and no `Option`: one comparison with the
+// number of blocks tells a leaf from a node and from no reference.
 fn index_of(reference: u32) -> usize
     ensures { result ≡ index_of reference }
 {
@@ -53,7 +53,7 @@ impl<'a> Query<'a> {
     }
 
     // May the block be marked? It is 1 to B, filed, not yet marked, and its signature covers the query.
-    pub fn may_mark(&self, marks: &Marks, block: usize) -> bool
+    fn may_mark(&self, marks: &Marks, block: usize) -> bool
         requires { blocks_in self.now ≤ length marks.now.bytes.now }
         ensures { result ≡ may_mark self.now.tables.rows.signatures.now self.now.tables.rows.links.now self.now.bits block marks.now.bytes.now }
     {
@@ -65,8 +65,9 @@ impl<'a> Query<'a> {
             && signature::covers(rows.signature_of(block), self.bits)
     }
 
-    // Marks the blocks of the chain from its head on. (Over the blocks that may be marked, a `for` would ask twice whether the chain has ended.)
-    pub fn mark_chain(&self, marks: &mut Marks, head: u32, left: Budget) -> Budget
+    // Marks the blocks of the chain from its head on. (Over the blocks that may be marked, a `for` would ask twice whether the chain has
+    // ended; `successors` would read a block's next word before the block is known to be one.)
+    fn mark_chain(&self, marks: &mut Marks, head: u32, left: Budget) -> Budget
         requires { blocks_in self.now ≤ length marks.old.bytes.now }
         ensures loan { SameLoan marks.new.bytes marks.old.bytes }
         ensures gives { (result, marks.new.bytes.now) ≡ chain_in self.now head left marks.old.bytes.now }
@@ -102,7 +103,7 @@ impl<'a> Query<'a> {
     }
 
     // A leaf of the tables is one compare; its chain is marked where its signature covers the query.
-    pub fn leaf(&self, marks: &mut Marks, head: u32, left: Budget) -> Budget
+    fn leaf(&self, marks: &mut Marks, head: u32, left: Budget) -> Budget
         requires room { blocks_in self.now ≤ length marks.old.bytes.now }
         requires le_head { (1 ≤ head) × (head ≤ blocks_in self.now) }
         ensures loan { SameLoan marks.new.bytes marks.old.bytes }
@@ -136,7 +137,7 @@ impl<'a> Query<'a> {
         nodes[at]
     }
 
-    // Does it go right only at a node of this word? Its position is not asked whether it is one: whatever it is, some bit is read.
+    // Does the query go right only at a node of this word? Its position is not asked whether it is one: whatever it is, some bit is read.
     fn goes_right(&self, word: u64) -> bool
         ensures { result ≡ eqb (side_at (width_of self.now.tables.rows.links.now) self.now.bits (position_in word)) 1 }
     {

@@ -5,25 +5,26 @@ use std::io;
 
 // One signing: the text's length, the width, k, the answer and the signature, 0 where the text is refused.
 fn show(rt: &impl Print, text: &[u8], width: u32, k: u32) -> io::Result<u64> {
-    let (answer, signature) = match words::sign(text, width, k) {
-        Ok(signature) => (0, signature),
-        Err(refusal) => (u32::from(refusal), 0),
-    };
+    let outcome = words::sign(text, width, k);
+    let answer = answers::answer(&outcome);
+    let signature = outcome.unwrap_or(0);
     let bytes = text.len();
     println!(rt; "bytes {bytes} width {width} k {k} answer {answer} signature {signature}")?;
     Ok(signature)
 }
 
-// One word: its number, the answer, its length and its bytes; then its place, as a caller from C asks for it.
+// One word: its number, the answer, its length and its bytes; then its place, as a caller from C is told it.
 fn split(rt: &impl Print, text: &[u8], n: u32) -> io::Result<()> {
     let mut answer = 99;
     let word = words::word(text, n, &mut answer);
     let bytes = word.len();
     print!(rt; "word {n} answer {answer} bytes {bytes} [")?;
     rt.write_all(word)?;
-    let mut start = 0;
-    let mut size = 0;
-    let placed = words::word_place(text, n, &mut start, &mut size);
+    let outcome = words::word_place(text, n);
+    let placed = answers::answer(&outcome);
+    let place = outcome.unwrap_or(text.len()..text.len());
+    let start = place.start;
+    let size = place.len();
     println!(rt; "] answer {placed} start {start} size {size}")
 }
 

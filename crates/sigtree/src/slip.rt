@@ -11,7 +11,8 @@ use answers::{Counts, Refusal};
 use slips::Order;
 use tables::TablesMut;
 
-// A rebuild only reads the signatures: here they are lent to be changed, and are not.
+// A rebuild only reads the signatures. Here they are lent to be changed, as the other fields of the tables are: of a field lent to be read
+// beside fields lent to be changed, the check knows nothing afterwards.
 fn rebuild_lent(
     signatures: &mut [u64],
     links: &mut [u32],
@@ -53,8 +54,8 @@ fn search(
     )
 }
 
-// Questions 1 to 3, then the call's own; the promise is that of the call carried out. (One struct of tables and work was tried: a caller who
-// makes it of slices that he is lent learns nothing of them afterwards.)
+// Questions 1 to 3, then the call's own; the promise is that of the call carried out. (One struct of tables and work was tried: of
+// slices that a caller is lent and puts into two structs in one, the check knows nothing after the call.)
 pub fn carry_out(slip: &[u8], tables: &mut TablesMut, work: &mut Work) -> Result<Counts, Refusal>
     ensures promise { PackedSlip slip.now (lent_in tables.old work.old) (report_of result) (lent_in tables.new work.new) }
     ensures found { IfOk result (λ counts. counts.found ≤ length work.new.output.now) }

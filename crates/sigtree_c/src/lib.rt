@@ -200,5 +200,10 @@ pub extern "C" fn sigtree_sign(text: &[u8], width: u32, k: u32, answer: &mut u32
 pub extern "C" fn sigtree_word(text: &[u8], n: u32, start: &mut usize, size: &mut usize) -> u32
     ensures { PlacePromise text.now n result start.new size.new }
 {
-    words::word_place(text, n, start, size)
+    let outcome = words::word_place(text, n);
+    let told = answer(&outcome);
+    let place = outcome.unwrap_or(text.len()..text.len());
+    *start = place.start;
+    *size = place.len();
+    told
 }

@@ -8,7 +8,7 @@ ghost use Rattle.slips.specs.Order.{reading_of};
 use answers::Refusal;
 
 // Question 1: a slip is sixteen bytes.
-const SLIP: usize = 16;
+pub const SLIP: usize = 16;
 
 // The call that a slip carries, with the fields that it uses.
 #[derive(Clone, Copy, Debug, PartialEq, Eq)]
@@ -62,7 +62,8 @@ fn order_of(kind: u8, zeros: bool, block: u32, signature: u64) -> Result<Order, 
     }
 }
 
-// Questions 1 to 3, in order, and the call of the slip's kind.
+// Questions 1 to 3, in order, and the call of the slip's kind. (No `TryFrom`: beside this function, which callers have, it would be the same
+// again.)
 #[tactic(auto, unfolding(model::specs::Questions::read_slip, model::specs::Questions::ask_slip, model::specs::Questions::number_at))]
 pub fn read(slip: &[u8]) -> Result<Order, Refusal>
     ensures { reading_of result ≡ read_slip slip.now }

@@ -1,8 +1,9 @@
 // A group of head blocks, one for each of its distinct signatures, becomes a tree: it is parted in place at the position where the
-// smaller side is largest, its node is written, and each half of it is lent to a call of its own.
+// smaller side is largest, its node is written, and each half of it is lent to a call of its own. (The group stays a slice, and that its
+// entries are blocks a clause: it is parted in place, and a ghost field beside a `&mut` is not covered by the check.)
 #![tactic(auto)]
 
-ghost use Rattle.std.specs.Prelude.{◌≡◌, ℕ, ◌+◌, ◌^◌, ◌<◌, ◌≤◌, length, List};
+ghost use Rattle.std.specs.Prelude.{◌≡◌, ℕ, eqb, ◌+◌, ◌^◌, ◌<◌, ◌≤◌, length, List};
 ghost use Rattle.std.proofs.lemmas.List.Edits.{sets};
 ghost use Rattle.model.specs.Limits.{widest};
 ghost use Rattle.model.specs.Signature.{bit_at};
@@ -12,7 +13,8 @@ ghost use Rattle.model.specs.Packed.{unpacked, Packs};
 ghost use Rattle.model.specs.Rebuild.{group_nodes};
 ghost use Rattle.split.specs.Split.{Blocks, Group, Parted, Halved, reference_to};
 
-use tables::nodes::set_node;
+use signature::Position;
+use tables::nodes::{Parts, set_node};
 
 // The blocks' signatures, and their width.
 #[derive(Clone, Copy)]
@@ -29,46 +31,46 @@ struct Cut {
 }
 
 impl Signed<'_> {
-    // The bit of the block's signature at the position: 0 or 1.
-    fn bit(&self, block: u32, position: u32) -> u32
-        requires is_block { (1 ≤ block) × (block ≤ length self.now.signatures.now) }
-        requires is_position { (1 ≤ position) × (position ≤ self.now.width) }
-        ensures { (result ≡ bit_at self.now.width (signature_of self.now.signatures.now block) position) × (result ≤ 1) }
+    // Whether the block's signature has the position set.
+    fn is_set(&self, block: u32, position: Position) -> bool
+        requires { (1 ≤ block) × (block ≤ length self.now.signatures.now) }
+        ensures { result ≡ eqb (bit_at position.width (signature_of self.now.signatures.now block) position.number) 1 }
     {
-        signature::bit(self.signatures[block as usize - 1], self.width, position)
+        position.is_set(self.signatures[block as usize - 1])
     }
 
-    // How many blocks of the group have the bit set.
-    fn ones(&self, group: &[u32], position: u32) -> usize
-        requires blocks { Blocks (length self.now.signatures.now) group.now }
-        requires is_position { (1 ≤ position) × (position ≤ self.now.width) }
-        ensures { result ≡ length (side self.now.width (signature_of self.now.signatures.now) position 1 group.now) }
+    // How many blocks of the group have the bit set. (The bits are summed: a `filter` with `count` is slower, since it branches at each of
+    // them, and they are as good as random.)
+    fn ones(&self, group: &[u32], position: Position) -> usize
+        requires { Blocks (length self.now.signatures.now) group.now }
+        ensures { result ≡ length (side position.width (signature_of self.now.signatures.now) position.number 1 group.now) }
     {
         group
             .iter()
-            .map(|block| self.bit(*block, position) as usize)
+            .map(|block| usize::from(self.is_set(*block, position)))
             .sum()
     }
 
     // The size of the smaller side where the group is split at the position.
-    fn smaller_side(&self, group: &[u32], position: u32) -> usize
-        requires blocks { Blocks (length self.now.signatures.now) group.now }
-        requires is_position { (1 ≤ position) × (position ≤ self.now.width) }
-        ensures { result ≡ smaller self.now.width (signature_of self.now.signatures.now) position group.now }
+    fn smaller_side(&self, group: &[u32], position: Position) -> usize
+        requires { Blocks (length self.now.signatures.now) group.now }
+        ensures { result ≡ smaller position.width (signature_of self.now.signatures.now) position.number group.now }
     {
         let right = self.ones(group, position);
         right.min(group.len() - right)
     }
 
     // The position, 1 to `width`, where the smaller side is largest, the lowest on a tie.
-    fn best_position(&self, group: &[u32]) -> u32
+    fn best_position(&self, group: &[u32]) -> Position
         requires { Blocks (length self.now.signatures.now) group.now }
-        ensures within { (1 ≤ result) × (result ≤ self.now.width) }
-        ensures best { result ≡ best_position self.now.width (signature_of self.now.signatures.now) group.now }
+        ensures width { result.width ≡ self.now.width }
+        ensures best { result.number ≡ best_position self.now.width (signature_of self.now.signatures.now) group.now }
     {
-        let mut best = 1;
+        let width = self.width;
+        let mut best = Position { width, number: 1 };
         let mut size = self.smaller_side(group, best);
-        for position in 2..=self.width {
+        for number in 2..=width {
+            let position = Position { width, number };
             let next = self.smaller_side(group, position);
             if size < next {
                 size = next;
@@ -80,19 +82,18 @@ impl Signed<'_> {
 
     // Those blocks with bit 0 first, then those with 1. The result is how many have 0. No iterator has two ends that meet while the
     // entries between them change places.
-    fn partition(&self, group: &mut [u32], position: u32) -> usize
-        requires blocks { Blocks (length self.now.signatures.now) group.old }
-        requires is_position { (1 ≤ position) × (position ≤ self.now.width) }
-        ensures { Parted self.now.width (signature_of self.now.signatures.now) position group.old group.new result }
+    fn partition(&self, group: &mut [u32], position: Position) -> usize
+        requires { Blocks (length self.now.signatures.now) group.old }
+        ensures { Parted position.width (signature_of self.now.signatures.now) position.number group.old group.new result }
     {
         let mut low = 0;
         let mut end = group.len();
         while low < end {
-            if self.bit(group[low], position) == 0 {
-                low += 1;
-            } else {
+            if self.is_set(group[low], position) {
                 end -= 1;
                 group.swap(low, end);
+            } else {
+                low += 1;
             }
         }
         low
@@ -105,7 +106,10 @@ impl Signed<'_> {
     {
         let position = self.best_position(group);
         let low = self.partition(group, position);
-        Cut { position, low }
+        Cut {
+            position: position.number,
+            low,
+        }
     }
 
     // Writes the nodes of the group's tree from node `first` on, beside any links: a node, all of its left side, then its right.
@@ -123,7 +127,12 @@ impl Signed<'_> {
         let blocks = self.signatures.len();
         let left = reference(low, group[0], blocks + first + 1);
         let right = reference(size - low, group[low], blocks + first + low);
-        set_node(nodes, first, position, left, right);
+        let parts = Parts {
+            position,
+            left,
+            right,
+        };
+        set_node(nodes, first, parts);
         self.build(nodes, &mut group[..low], first + 1);
         self.build(nodes, &mut group[low..], first + low);
     }

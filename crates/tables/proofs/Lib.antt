@@ -23,3 +23,5 @@ pub mod Lending
 pub mod Reached
 pub mod Either
 pub mod Held
+pub mod Sided
+pub mod Addressed

@@ -9,12 +9,12 @@ use mathlib.Core.List.{List, [], ◌∷◌}
 use borrow.Author.Tests.{le-leb, lt-leb}
 use Rattle.model.specs.Signature.{bit_at}
 use Rattle.model.specs.Tree.{Edge, edge}
-use Rattle.model.specs.Tables.{word, links_of, root_at, root_of, side_at}
+use Rattle.model.specs.Tables.{word, root_at, root_of, side_at}
 use Rattle.model.specs.Sound.{Shape, tip, fork, Rooted, none, some, Holds, HoldsRoot, Placed, PlacedRoot, SoundAt}
 use Rattle.model.specs.File.{edge_at, spot_from, spot_of}
 use Rattle.model.specs.Withdraw.{parent_from, parent_of}
 use Rattle.model.proofs.Bits.{bit_cases}
-use Rattle.tables.specs.Walk.{NodeFits, WalkFits, Parent, Ends, HeldBy}
+use Rattle.tables.specs.Walk.{NodeFits, WalkFits, Parent, Ends}
 
 module _ (B F : ℕ) (links : List ℕ) (s : ℕ) where
   spot_none : (n at : ℕ) → n ≤ 0 → spot_from B F links s n at ≡ at

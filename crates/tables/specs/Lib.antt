@@ -7,3 +7,4 @@ pub mod Changed
 pub mod Walked
 pub mod Forms
 pub mod Held
+pub mod Parts

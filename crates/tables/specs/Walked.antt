@@ -1,10 +1,10 @@
 -- Where a walk ended, in the addresses of document 01's links.
 -- Assumes nothing.
-use Rattle.std.specs.Prelude.{ℕ, ◌≤◌, ◌<◌, Option, None, Some, IfSome}
-use Rattle.tables.specs.declared.place.Place.{Place}
+use Rattle.std.specs.Prelude.{ℕ, List, ◌≡◌, ◌≢◌, ◌≤◌, ◌<◌, Option, None, Some, IfSome}
 use Rattle.tables.specs.declared.walk.Parent.{Parent}
 use Rattle.tables.specs.declared.walk.Walked.{Walked}
 use Rattle.tables.specs.Places.{address_of, IsPlace}
+use Rattle.tables.specs.Walk.{Ends, HeldBy, below_at}
 
 -- the address of the reference reached, 0 where the walk met an unfit node
 abbrev pub link_of : ℕ → Option Walked → ℕ
@@ -41,3 +41,11 @@ IsParent B p = IsPlace B p.place × (1 ≤ p.node) × (p.node < B)
 -- the two places are places of tables of B blocks
 abbrev pub IsInside : ℕ → Walked → Type 0
 IsInside B w = IsPlace B w.place × IfSome w.parent (IsParent B)
+
+-- The walk from the root by s: where it ends, by the addresses; the link is the edge below the parent that s takes; the places are places
+-- of the tables; and what stands there.
+pub record Walks (B F : ℕ) (links : List ℕ) (s : ℕ) (w : Option Walked) : Type 0 where
+  pub ends : Ends B F links s (link_of B w) (above_of B w)
+  pub taken : link_of B w ≢ 0 → link_of B w ≡ below_at B F links s (parent_of w)
+  pub inside : IfSome w (IsInside B)
+  pub held : HeldBy B links (link_of B w) (above_of B w) (reference_of w) (parent_of w)

@@ -1,8 +1,10 @@
 // The two forms of the tables. What only reads, as the audit does, is written once for both.
 ghost use Rattle.std.specs.Prelude.{◌≡◌, ◌≤◌, ◌<◌, ℕ, List, [], length};
+ghost use Rattle.model.specs.Tables.{width_of};
+ghost use Rattle.model.specs.Sound.{FitsAt};
 ghost use Rattle.model.specs.Packed.{unpacked};
 ghost use Rattle.tables.specs.Fits.{Fits, PartsOf};
-ghost use Rattle.tables.specs.Forms.{packed_fits, unpacked_fits};
+ghost use Rattle.tables.specs.Forms.{packed_fits, unpacked_fits, unpacked_held};
 
 use crate::nodes::{self, Parts};
 use crate::packed::Tables;
@@ -28,6 +30,9 @@ pub trait Form {
         ensures { PartsOf (length (signatures self.now)) (unpacked (links self.now) (nodes self.now)) node result.position result.left result.right };
 
     ghost fits: { (form : Self) → Fits (signatures form) (links form) (nodes form) };
+
+    // question 4's yes to the tables held
+    ghost held_fit: { (form : Self) → FitsAt (length (signatures form)) (width_of (unpacked (links form) (nodes form))) (signatures form) (unpacked (links form) (nodes form)) };
 }
 
 impl<'a> Form for Tables<'a> {
@@ -39,12 +44,14 @@ impl<'a> Form for Tables<'a> {
 
     ghost fits = { λ t. packed_fits _ _ _ t.rows.fit t.fits };
 
+    ghost held_fit = { λ t. t.fits.fits };
+
     fn rows(&self) -> Rows<'_> {
         self.rows
     }
 
     fn node(&self, node: usize) -> Parts {
-        nodes::parts_in(nodes::word_of(self.nodes, node))
+        nodes::word_of(self.nodes, node).into()
     }
 }
 
@@ -56,6 +63,8 @@ impl<'a> Form for Unpacked<'a> {
     ghost nodes = { λ t. [] };
 
     ghost fits = { λ t. unpacked_fits _ _ t.rows.fit t.fits };
+
+    ghost held_fit = { λ t. unpacked_held _ _ t.fits };
 
     fn rows(&self) -> Rows<'_> {
         self.rows

@@ -4,8 +4,9 @@ ghost use Rattle.std.proofs.lemmas.List.Edits.{sets};
 ghost use Rattle.model.specs.Tables.{position_at};
 ghost use Rattle.model.specs.Clear.{free_from, free_nodes};
 ghost use Rattle.model.specs.Packed.{unpacked, Packs};
+ghost use Rattle.tables.specs.Parts.{leading_to};
 
-use crate::nodes::set_node;
+use crate::nodes::{Parts, set_node};
 
 // Node i where there is one, else 0: a word of the tables, in which document 01 has 0 for none.
 pub fn free_from(blocks: usize, i: usize) -> u32
@@ -16,6 +17,17 @@ pub fn free_from(blocks: usize, i: usize) -> u32
     if i < blocks { i as u32 } else { 0 }
 }
 
+// A free node that leads to this one.
+fn leads_to(next: u32) -> Parts
+    ensures { result ≡ leading_to next }
+{
+    Parts {
+        position: 0,
+        left: next,
+        right: 0,
+    }
+}
+
 // Makes the nodes from `first` to the last free, beside any links. The last one stands after the loop, which then has no choice in it.
 pub fn free_rest(nodes: &mut [u64], blocks: usize, first: usize)
     requires { (1 ≤ first) × (first ≤ blocks) × (blocks ≤ 65535) × (length nodes.old + 1 ≡ blocks) }
@@ -23,9 +35,9 @@ pub fn free_rest(nodes: &mut [u64], blocks: usize, first: usize)
 {
     let last = blocks - 1;
     for node in first..last {
-        set_node(nodes, node, 0, node as u32 + 1, 0);
+        set_node(nodes, node, leads_to(node as u32 + 1));
     }
     if first <= last {
-        set_node(nodes, last, 0, 0, 0);
+        set_node(nodes, last, leads_to(0));
     }
 }

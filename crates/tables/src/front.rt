@@ -1,18 +1,13 @@
 // Question 4: do the lengths, B, F and words 0 and 1 fit? And question 5, is a block one of the tables'?
-ghost use Rattle.std.specs.Prelude.{◌≡◌, true, ◌&&◌, eqb, leb, ◌-◌, ◌≤◌, length};
+ghost use Rattle.std.specs.Prelude.{◌≡◌, ◌&&◌, eqb, leb, ◌-◌, ◌≤◌, length};
 ghost use Rattle.model.specs.Tables.{links_of, width_of, told_blocks};
-ghost use Rattle.model.specs.Sound.{FitsAt};
-ghost use Rattle.model.specs.Packed.{rows_of, unpacked};
-ghost use Rattle.model.specs.PackedPromises.{packed_fit};
-ghost use Rattle.tables.specs.Fits.{FitsPacked};
-ghost use Rattle.model.specs.Questions.{blocks_fit, width_fits, asks_tables, tables_fit};
+ghost use Rattle.model.specs.Packed.{rows_of};
+ghost use Rattle.model.specs.Questions.{blocks_fit, width_fits};
 
 use crate::address;
 
-// the largest number of blocks, and the widest width
+// the largest number of blocks
 const MOST_BLOCKS: usize = 65535;
-
-const WIDEST: u32 = 64;
 
 // Can tables have so many blocks?
 pub fn blocks_fit(blocks: usize) -> bool
@@ -28,7 +23,7 @@ pub fn lengths_fit(blocks: usize, links: usize, nodes: usize) -> bool
     blocks_fit(blocks) && links == 2 * blocks + 5 && nodes == blocks - 1
 }
 
-// The same of the form of 5 * B + 2 links.
+// The same of the form of 5 * B + 2 links, which has no nodes beside them.
 pub fn unpacked_lengths(blocks: usize, links: usize) -> bool
     ensures { result ≡ (blocks_fit blocks && eqb links (links_of blocks)) }
 {
@@ -36,11 +31,7 @@ pub fn unpacked_lengths(blocks: usize, links: usize) -> bool
 }
 
 // Is the width one that signatures can have?
-pub fn width_fits(width: u32) -> bool
-    ensures { result ≡ width_fits width }
-{
-    (1..=WIDEST).contains(&width)
-}
+pub use signature::is_width as width_fits;
 
 // Do words 0 and 1 fit: the width, and the number of blocks?
 pub fn words_fit(links: &[u32], blocks: usize) -> bool

@@ -10,13 +10,14 @@ ghost use Rattle.tables.specs.Changed.{links_in, blocks_in, node_stores, PacksIn
 ghost use Rattle.tables.specs.Places.{address_of, IsPlace};
 ghost use Rattle.tables.specs.Sides.{side_number};
 
+use crate::nodes::Parts;
 use crate::packed::Tables;
 use crate::place::Place;
 use crate::side::Side;
-use crate::{address, nodes};
+use crate::{address, nodes, rows, stores};
 use answers::Refusal;
 
-// The slices, of which nothing is known: whether they fit is asked where they are read. (A ghost field beside a `&mut` is not covered by the
+// The slices, of which the type says nothing: whether they fit is asked where they are read. (A ghost field beside a `&mut` is not covered by the
 // check, so a store asks for the lengths in its clauses.)
 #[derive(Drop)]
 pub struct TablesMut<'a> {
@@ -47,7 +48,7 @@ impl TablesMut<'_> {
         requires { PacksIn self.old }
         ensures { Becomes self.old self.new (set (links_in self.old) free_at node) }
     {
-        self.links[address::FREE] = node;
+        stores::set_free(self.links, node);
     }
 
     // Stores the block that is next to the block.
@@ -55,15 +56,15 @@ impl TablesMut<'_> {
         requires { PacksIn self.old × (block ≤ blocks_in self.old) }
         ensures { Becomes self.old self.new (set (links_in self.old) (next_at block) next) }
     {
-        self.links[2 * block + 3] = next;
+        rows::set_next(self.links, block, next);
     }
 
-    // Stores whether the block is filed.
+    // Stores the block's filed word, 1 or 0 as document 01 has it.
     pub fn set_filed(&mut self, block: usize, filed: u32)
         requires { PacksIn self.old × (block ≤ blocks_in self.old) }
         ensures { Becomes self.old self.new (set (links_in self.old) (filed_at block) filed) }
     {
-        self.links[2 * block + 4] = filed;
+        rows::set_filed(self.links, block, filed);
     }
 
     // Stores the reference at the place.
@@ -85,10 +86,10 @@ impl TablesMut<'_> {
         requires parts_fit { (position < 2 ^ 30) × (here < 2 ^ 17) × (there < 2 ^ 17) }
         ensures { Becomes self.old self.new (stores (links_in self.old) (node_stores (blocks_in self.old) node position (side_number side) here there)) }
     {
-        let word = match side {
-            Side::Left => nodes::join(position, here, there),
-            Side::Right => nodes::join(position, there, here),
-        };
-        self.nodes[node - 1] = word;
+        nodes::set_node(
+            self.nodes,
+            node,
+            Parts::by_side(position, side, here, there),
+        );
     }
 }

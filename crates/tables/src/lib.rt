@@ -1,4 +1,5 @@
-// The words of the tables: the one place in code that knows where a word stands, with question 4, and the walk by a signature's bits.
+// The words of the tables: the one place in code that knows where a word of the links or of a node stands, with question 4, and the walk by
+// a signature's bits.
 #![tactic(auto)]
 
 pub mod address;
@@ -10,8 +11,9 @@ pub mod nodes;
 mod packed;
 mod place;
 mod reading;
-mod rows;
+pub mod rows;
 mod side;
+pub mod stores;
 mod unpacked;
 pub mod walk;
 

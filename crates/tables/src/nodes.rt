@@ -1,17 +1,24 @@
 // The word of a node, 1 to B - 1: position times 2^34, plus left times 2^17, plus right. The only place in code that knows it.
+// Nodes are words in a slice, and references are indices: document 01 lays the tables out so, in memory that the caller lends. A reference
+// is one of its words: 0 for none, a block for its leaf, B more than its number for a node. The three are told apart where they are met, by
+// comparisons with B: all but the rebuild's walk let two of them go the same way, so an enum would be matched with arms alike. A node's
+// number, and a reference below 2^17, have their bounds in clauses: types for them, handed on, would need clauses again, that they are of
+// these tables.
 ghost use Rattle.std.specs.Prelude.{◌≡◌, ◌+◌, ◌-◌, ◌^◌, ◌≤◌, ◌<◌, length, get_or, set};
 ghost use Rattle.model.specs.Packed.{node_word, position_in, left_in, right_in, part_in, with_part};
+ghost use Rattle.tables.specs.Nodes.{sides_word};
+ghost use Rattle.tables.specs.Parts.{IsParts, FitsWord, by_side};
 ghost use Rattle.tables.specs.Sides.{side_number};
 
 use crate::side::Side;
 
-// what a left reference and a position are counted in
-const LEFT: u64 = 131072;
-
-const POSITION: u64 = 17179869184;
-
 // the first number that no side of a node holds
 pub const TOO_LARGE: u32 = 131072;
+
+// what a left reference and a position are counted in
+const LEFT: u64 = TOO_LARGE as u64;
+
+const POSITION: u64 = LEFT * LEFT;
 
 // The word of the node.
 pub fn word_of(nodes: &[u64], node: usize) -> u64
@@ -42,14 +49,6 @@ pub fn right_in(word: u64) -> u32
     (word % LEFT) as u32
 }
 
-// The word of these parts.
-pub fn join(position: u32, left: u32, right: u32) -> u64
-    requires { (position < 2 ^ 30) × (left < 2 ^ 17) × (right < 2 ^ 17) }
-    ensures { result ≡ node_word position left right }
-{
-    position as u64 * POSITION + left as u64 * LEFT + right as u64
-}
-
 // What a node says: the position that it tests, and its two references.
 #[derive(Clone, Copy, Debug, PartialEq, Eq)]
 pub struct Parts {
@@ -58,15 +57,44 @@ pub struct Parts {
     pub right: u32,
 }
 
-// The parts of the word.
-pub fn parts_in(word: u64) -> Parts
-    ensures { (result.position ≡ position_in word) × (result.left ≡ left_in word) × (result.right ≡ right_in word) }
-{
-    Parts {
-        position: position_in(word),
-        left: left_in(word),
-        right: right_in(word),
+impl From<u64> for Parts {
+    ghost from_gives = { IsParts };
+
+    fn from(word: u64) -> Parts {
+        Parts {
+            position: position_in(word),
+            left: left_in(word),
+            right: right_in(word),
+        }
     }
+}
+
+impl Parts {
+    // What is on a side, and what is on the other.
+    pub fn by_side(position: u32, side: Side, here: u32, there: u32) -> Parts
+        ensures { result ≡ by_side position side here there }
+    {
+        match side {
+            Side::Left => Parts {
+                position,
+                left: here,
+                right: there,
+            },
+            Side::Right => Parts {
+                position,
+                left: there,
+                right: here,
+            },
+        }
+    }
+}
+
+// The word of these parts. (No `From`: parts of the other form may be too large for a word, and `From` asks nothing.)
+pub fn join(parts: Parts) -> u64
+    requires { FitsWord parts }
+    ensures { result ≡ node_word parts.position parts.left parts.right }
+{
+    u64::from(parts.position) * POSITION + u64::from(parts.left) * LEFT + u64::from(parts.right)
 }
 
 // The reference on the side.
@@ -79,22 +107,52 @@ pub fn side_in(word: u64, side: Side) -> u32
     }
 }
 
+// The word with one part changed: 0 is the position, 1 the left, any other the right, as an address divided by three leaves them.
+pub fn with_part(word: u64, part: usize, value: u32) -> u64
+    requires { value < 2 ^ 17 }
+    ensures { result ≡ with_part word part value }
+{
+    let old = Parts::from(word);
+    join(match part {
+        0 => Parts {
+            position: value,
+            ..old
+        },
+        1 => Parts { left: value, ..old },
+        _ => Parts {
+            right: value,
+            ..old
+        },
+    })
+}
+
 // The word with another reference on the side.
 pub fn with_side(word: u64, side: Side, reference: u32) -> u64
     requires { reference < 2 ^ 17 }
     ensures { result ≡ with_part word (1 + side_number side) reference }
 {
     match side {
-        Side::Left => join(position_in(word), reference, right_in(word)),
-        Side::Right => join(position_in(word), left_in(word), reference),
+        Side::Left => with_part(word, 1, reference),
+        Side::Right => with_part(word, 2, reference),
     }
 }
 
 // Sets the whole word of the node.
-pub fn set_node(nodes: &mut [u64], node: usize, position: u32, left: u32, right: u32)
+pub fn set_node(nodes: &mut [u64], node: usize, parts: Parts)
     requires le_node { (1 ≤ node) × (node ≤ length nodes.old) }
-    requires position_bound { (position < 2 ^ 30) × (left < 2 ^ 17) × (right < 2 ^ 17) }
-    ensures { nodes.new ≡ set nodes.old (node - 1) (node_word position left right) }
+    requires parts_fit { FitsWord parts }
+    ensures { nodes.new ≡ set nodes.old (node - 1) (node_word parts.position parts.left parts.right) }
 {
-    nodes[node - 1] = join(position, left, right);
+    nodes[node - 1] = join(parts);
+}
+
+// The same by document 01's number of a side, of which 0 is the left and any other the right, for a caller who has the number: the side
+// becomes `here`, the other `there`.
+pub fn set_sides(nodes: &mut [u64], node: usize, position: u32, side: u32, here: u32, there: u32)
+    requires le_node { (1 ≤ node) × (node ≤ length nodes.old) }
+    requires position_bound { (position < 2 ^ 30) × (here < 2 ^ 17) × (there < 2 ^ 17) }
+    ensures { nodes.new ≡ set nodes.old (node - 1) (sides_word position side here there) }
+{
+    let side = Side::from(side != 0);
+    set_node(nodes, node, Parts::by_side(position, side, here, there));
 }

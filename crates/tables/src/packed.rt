@@ -1,13 +1,12 @@
 // Tables that are lent to be read, of which question 4 says yes: whoever has them need not ask it again.
-ghost use Rattle.std.specs.Prelude.{◌≡◌, ◌&&◌, ◌≤◌, ◌<◌, length, IfOk};
+ghost use Rattle.std.specs.Prelude.{◌≡◌, ◌&&◌, IfOk};
 ghost use Rattle.model.specs.Packed.{unpacked};
 ghost use Rattle.model.specs.Questions.{ask, asks_tables, tables_fit};
 ghost use Rattle.model.specs.PackedPromises.{packed_fit};
 ghost use Rattle.answers.specs.Answers.{answer_of};
-ghost use Rattle.tables.specs.Fits.{FitsPacked, PartsOf};
+ghost use Rattle.tables.specs.Fits.{FitsPacked};
 
 use crate::front;
-use crate::nodes::{self, Parts};
 use crate::rows::Rows;
 use answers::Refusal;
 
@@ -20,7 +19,8 @@ pub struct Tables<'a> {
 }
 
 impl<'a> Tables<'a> {
-    // Question 4, as all calls but clear ask it.
+    // Question 4, as the calls on packed tables ask it. (`Unpacked::of` is no instance of it: other slices are lent, and other lengths are
+    // asked for.)
     pub fn of(
         signatures: &'a [u64],
         links: &'a [u32],

@@ -1,10 +1,11 @@
-// What is read of lent tables while they are stored to.
+// What is read of lent tables while they are stored to. (`Rows` reads the same words by the same functions; it cannot be had of tables while
+// they are stored to, since it would borrow them.)
 ghost use Rattle.std.specs.Prelude.{◌≡◌, ◌≤◌, ◌<◌};
 ghost use Rattle.model.specs.Tables.{count_of, next_of, left_of};
 ghost use Rattle.tables.specs.Changed.{links_in, blocks_in, PacksIn};
 
 use crate::lent::TablesMut;
-use crate::{address, nodes};
+use crate::{address, nodes, rows};
 
 impl TablesMut<'_> {
     // The count of filed blocks.
@@ -20,7 +21,7 @@ impl TablesMut<'_> {
         requires { PacksIn self.now × (block ≤ blocks_in self.now) }
         ensures { result ≡ next_of (links_in self.now) block }
     {
-        self.links[2 * block + 3]
+        rows::next_of(self.links, block)
     }
 
     // The left reference of the node.

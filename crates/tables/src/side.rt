@@ -9,14 +9,16 @@ pub enum Side {
     Right,
 }
 
-impl Side {
-    // The side of the signatures whose position is set, or is not.
-    pub fn of(set: bool) -> Side
-        ensures { (side_number result ≡ 1) ↔ (set ≡ true) }
-    {
+// The side of the signatures whose position is set, or is not.
+impl From<bool> for Side {
+    ghost from_gives = { λ set side. (side_number side ≡ 1) ↔ (set ≡ true) };
+
+    fn from(set: bool) -> Side {
         if set { Side::Right } else { Side::Left }
     }
+}
 
+impl Side {
     // The other side.
     pub fn other(self) -> Side
         ensures { side_number result ≡ 1 - side_number self }

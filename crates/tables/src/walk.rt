@@ -1,17 +1,19 @@
 // The walk by a signature's bits, from the root to a reference that is no node. Ends on any tables: it passes at most as many nodes as
 // there are positions.
-ghost use Rattle.std.specs.Prelude.{◌≤◌, ◌<◌, ◌≡◌, ◌≢◌, length, IfSome};
+ghost use Rattle.std.specs.Prelude.{ℕ, List, ◌≤◌, ◌<◌, ◌≡◌, ◌≢◌, ◌-◌, length, get_or, IfSome};
 ghost use Rattle.model.specs.Tables.{width_of};
-ghost use Rattle.model.specs.Packed.{unpacked};
+ghost use Rattle.model.specs.Packed.{position_in, unpacked, Packs};
+ghost use Rattle.tables.specs.Held.{blocks_held, held};
 ghost use Rattle.tables.specs.Sides.{edge_number};
 ghost use Rattle.tables.specs.Places.{address_of, IsPlace};
-ghost use Rattle.tables.specs.Walk.{NodeFits, EdgeIn, Ends, HeldBy, below_at};
-ghost use Rattle.tables.specs.Walked.{IsInside, link_of, above_of, reference_of, parent_of};
+ghost use Rattle.tables.specs.Walk.{EdgeIn, Ends, HeldBy, below_at};
+ghost use Rattle.tables.specs.Walked.{IsInside, Walks, link_of, above_of, reference_of, parent_of};
 
-use crate::nodes;
 use crate::packed::Tables;
 use crate::place::Place;
 use crate::side::Side;
+use crate::{address, nodes};
+use signature::Position;
 
 // A node, and where the reference to it stands.
 #[derive(Clone, Copy, Debug, PartialEq, Eq)]
@@ -33,38 +35,44 @@ pub fn edge_in(word: u64, width: u32, signature: u64) -> Option<Side>
     requires { width ≤ 64 }
     ensures { EdgeIn width word signature (edge_number result) }
 {
-    let position = nodes::position_in(word);
-    if position < 1 || width < position {
-        return None;
-    }
-    Some(Side::of(signature::is_set(signature, width, position)))
+    let position = Position::of(width, nodes::position_in(word))?;
+    Some(position.is_set(signature).into())
 }
 
-// The place that the signature takes below the node, or the root below none, which is 0 as in the tables.
-fn place_below(tables: &Tables, signature: u64, node: usize) -> Place
-    requires { node ≢ 0 → NodeFits (length tables.now.rows.signatures.now) (width_of tables.now.rows.links.now) (unpacked tables.now.rows.links.now tables.now.nodes.now) node }
-    ensures address { address_of (length tables.now.rows.signatures.now) result ≡ below_at (length tables.now.rows.signatures.now) (width_of tables.now.rows.links.now) (unpacked tables.now.rows.links.now tables.now.nodes.now) signature node }
-    ensures inside { IsPlace (length tables.now.rows.signatures.now) result }
+// The place that the signature takes below the node, or the root below none, which is 0 as in the walk's loop.
+fn place_below(nodes: &[u64], width: u32, signature: u64, node: usize) -> Place
+    requires { (node ≤ length nodes.now) × (width ≤ 64) × (node ≢ 0 → (1 ≤ position_in (get_or nodes.now (node - 1) 0)) × (position_in (get_or nodes.now (node - 1) 0) ≤ width)) }
+    ensures address { (B : ℕ) (links : List ℕ) → Packs B links nodes.now → address_of B result ≡ below_at B width (unpacked links nodes.now) signature node }
+    ensures inside { (B : ℕ) → node < B → IsPlace B result }
 {
     if node == 0 {
         return Place::Root;
     }
-    let position = nodes::position_in(nodes::word_of(tables.nodes, node));
-    let side = Side::of(signature::is_set(signature, tables.rows.width(), position));
+    let position = Position {
+        width,
+        number: nodes::position_in(nodes::word_of(nodes, node)),
+    };
+    let side = position.is_set(signature).into();
     Place::Below { node, side }
 }
 
-// Walks from the root; none where it meets an unfit node. The loop keeps the numbers of the last two nodes, 0 for none: it takes a tenth
-// longer where it keeps their places.
-pub fn walk(tables: &Tables, signature: u64) -> Option<Walked>
-    ensures ends { Ends (length tables.now.rows.signatures.now) (width_of tables.now.rows.links.now) (unpacked tables.now.rows.links.now tables.now.nodes.now) signature (link_of (length tables.now.rows.signatures.now) result) (above_of (length tables.now.rows.signatures.now) result) }
-    ensures taken { link_of (length tables.now.rows.signatures.now) result ≢ 0 → link_of (length tables.now.rows.signatures.now) result ≡ below_at (length tables.now.rows.signatures.now) (width_of tables.now.rows.links.now) (unpacked tables.now.rows.links.now tables.now.nodes.now) signature (parent_of result) }
-    ensures inside { IfSome result (IsInside (length tables.now.rows.signatures.now)) }
-    ensures held { HeldBy (length tables.now.rows.signatures.now) (unpacked tables.now.rows.links.now tables.now.nodes.now) (link_of (length tables.now.rows.signatures.now) result) (above_of (length tables.now.rows.signatures.now) result) (reference_of result) (parent_of result) }
+// Walks from the root, on bare slices at any width; none where it meets an unfit node. The loop keeps the numbers of the last two nodes, 0 for none: it takes a tenth
+// longer where it keeps their places. Inlined, so that no result goes through memory.
+#[inline(always)]
+pub fn walk(
+    links: &[u32],
+    nodes: &[u64],
+    blocks: usize,
+    width: u32,
+    signature: u64,
+) -> Option<Walked>
+    requires { (blocks ≤ 65535) × (width ≤ 64) × Packs blocks links.now nodes.now }
+    ensures ends { Ends blocks width (unpacked links.now nodes.now) signature (link_of blocks result) (above_of blocks result) }
+    ensures taken { link_of blocks result ≢ 0 → link_of blocks result ≡ below_at blocks width (unpacked links.now nodes.now) signature (parent_of result) }
+    ensures inside { IfSome result (IsInside blocks) }
+    ensures held { HeldBy blocks (unpacked links.now nodes.now) (link_of blocks result) (above_of blocks result) (reference_of result) (parent_of result) }
 {
-    let blocks = tables.rows.blocks();
-    let width = tables.rows.width();
-    let mut reference = tables.rows.root();
+    let mut reference = links[address::ROOT];
     let mut node = 0;
     let mut above = 0;
     for _ in 0..width {
@@ -76,7 +84,7 @@ pub fn walk(tables: &Tables, signature: u64) -> Option<Walked>
         if blocks <= next {
             return None;
         }
-        let word = nodes::word_of(tables.nodes, next);
+        let word = nodes::word_of(nodes, next);
         let side = edge_in(word, width, signature)?;
         reference = nodes::side_in(word, side);
         above = node;
@@ -90,11 +98,28 @@ pub fn walk(tables: &Tables, signature: u64) -> Option<Walked>
         });
     }
     Some(Walked {
-        place: place_below(tables, signature, node),
+        place: place_below(nodes, width, signature, node),
         reference,
         parent: Some(Parent {
-            place: place_below(tables, signature, above),
+            place: place_below(nodes, width, signature, above),
             node,
         }),
     })
+}
+
+impl Tables<'_> {
+    // The same at the tables' own width.
+    #[inline(always)]
+    pub fn walk(&self, signature: u64) -> Option<Walked>
+        ensures { Walks (blocks_held self.now) (width_of self.now.rows.links.now) (held self.now) signature result }
+    {
+        let rows = self.rows;
+        walk(
+            rows.links,
+            self.nodes,
+            rows.blocks(),
+            rows.width(),
+            signature,
+        )
+    }
 }

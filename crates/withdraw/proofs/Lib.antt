@@ -9,3 +9,4 @@ pub mod Withdrawing
 pub mod Raising
 pub mod Withdrawn
 pub mod Promised
+pub mod Packed

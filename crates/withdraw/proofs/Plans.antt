@@ -56,7 +56,7 @@ side_taken B F L s (suc i) j side h e = omega (arith, e, side_small side, bit_be
 module _ (t : Tables) (parent : Parent) (holds : word (held t) (address_of (blocks_held t) parent.place) ≡ blocks_held t + parent.node) (from : 1 ≤ parent.node) (to : parent.node < blocks_held t)
     (F b s : ℕ) (side : Side) (is_side : side_number side ≡ bit_at F s (position_of (blocks_held t) (held t) parent.node)) where
   pub raises : (w : ℕ) → w ≡ get_or t.nodes.now (parent.node - 1) 0 → (r o f : ℕ) → r ≡ part_in w (1 + o) → o ≡ 1 - side_number side
-      → PlansRaise (blocks_held t) F (held t) b s (address_of (blocks_held t) parent.place) (Some (Raise parent.place parent.node r f))
+      → PlansRaise (blocks_held t) F (held t) b s (address_of (blocks_held t) parent.place) (Some (Raise (record { node = parent.node; above = parent.place; sibling = r; free = f })))
   raises w is_w r o f is_r is_o l h =
       let node : parent.node ≡ word (held t) (address_of (blocks_held t) parent.place) - blocks_held t = omega (arith, holds) in
       let z : r ≡ side_of (blocks_held t) (held t) parent.node (1 - side_number side) =

@@ -17,8 +17,8 @@ abbrev pub PlanFits : ℕ → List ℕ → Option Plan → Type 0
 PlanFits B links None = Unit {0}
 PlanFits B links (Some (Unlink before next)) = (1 ≤ count_of links) × (1 ≤ before) × (before ≤ B) × (next < 2 ^ 17)
 PlanFits B links (Some (Lead place next)) = (1 ≤ count_of links) × IsPlace B place × (next < 2 ^ 17)
-PlanFits B links (Some (Raise above node sibling free)) =
-    (1 ≤ count_of links) × IsPlace B above × (1 ≤ node) × (node < B) × (sibling < 2 ^ 17) × (free < 2 ^ 17) × (free ≡ free_of links)
+PlanFits B links (Some (Raise n)) =
+    (1 ≤ count_of links) × IsPlace B n.above × (1 ≤ n.node) × (n.node < B) × (n.sibling < 2 ^ 17) × (n.free < 2 ^ 17) × (n.free ≡ free_of links)
 
 -- there is a plan
 abbrev pub is_plan : Option Plan → Bool
@@ -30,7 +30,7 @@ abbrev pub plan_stores : ℕ → List ℕ → ℕ → Option Plan → List Store
 plan_stores B links b None = []
 plan_stores B links b (Some (Unlink before next)) = withdrawal_stores links b ((next_at before ↤ next) ∷ [])
 plan_stores B links b (Some (Lead place next)) = withdrawal_stores links b ((address_of B place ↤ next) ∷ [])
-plan_stores B links b (Some (Raise above node sibling free)) = raise_stores B links b (address_of B above) node sibling
+plan_stores B links b (Some (Raise n)) = raise_stores B links b (address_of B n.above) n.node n.sibling
 
 -- p is a plan of exactly these stores
 pub record Plans (B : ℕ) (links : List ℕ) (b : ℕ) (p : Option Plan) (ws : List Store) : Type 0 where

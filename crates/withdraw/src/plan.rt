@@ -11,33 +11,32 @@ ghost use Rattle.withdraw.specs.Asking.{Passed};
 ghost use Rattle.withdraw.specs.Plan.{PlanFits, IsBefore, PlansChain, PlansRaise, PlansHead, PlansRight};
 
 use tables::nodes::{self, TOO_LARGE};
-use tables::walk::{self, Parent, Walked};
+use tables::walk::{Parent, Walked};
 use tables::{Place, Side, Tables, front};
 
 // What is stored besides the block's row and the count.
 #[derive(Clone, Copy, Debug, PartialEq, Eq)]
 pub enum Plan {
     // the block before it leads on past it
-    Unlink {
-        before: u32,
-        next: u32,
-    },
+    Unlink { before: u32, next: u32 },
     // the next block, or nothing at the root, becomes the reference there
-    Lead {
-        place: Place,
-        next: u32,
-    },
-    // the sibling takes the place of its parent, which becomes the first free node, before this one
-    Raise {
-        above: Place,
-        node: usize,
-        sibling: u32,
-        free: u32,
-    },
+    Lead { place: Place, next: u32 },
+    // the sibling takes the place of its parent, which becomes free
+    Raise(FreedNode),
+}
+
+// The parent of the block's leaf, where the reference to it stands, and what is on its other side; and the first free node so far, to which
+// it will lead.
+#[derive(Clone, Copy, Debug, PartialEq, Eq)]
+pub struct FreedNode {
+    pub node: usize,
+    pub above: Place,
+    pub sibling: u32,
+    pub free: u32,
 }
 
 // The block before `block` on the chain from `head`. None where it is not met within as many blocks as there are.
-pub fn find_before(tables: &Tables, block: u32, head: u32) -> Option<u32>
+fn find_before(tables: &Tables, block: u32, head: u32) -> Option<u32>
     requires { (1 ≤ head) × (head ≤ blocks_held tables.now) }
     ensures chain { IsBefore (blocks_held tables.now) (held tables.now) block head result }
     ensures inside { IfSome result (λ before. (1 ≤ before) × (before ≤ blocks_held tables.now)) }
@@ -59,7 +58,8 @@ pub fn find_before(tables: &Tables, block: u32, head: u32) -> Option<u32>
 }
 
 // The block stands on the chain from `head`, after it: the block before it leads on past it.
-pub fn plan_chain(tables: &Tables, block: u32, head: u32) -> Option<Plan>
+#[inline(always)]
+fn plan_chain(tables: &Tables, block: u32, head: u32) -> Option<Plan>
     requires { (1 ≤ block) × (block ≤ blocks_held tables.now) × (1 ≤ count_of (held tables.now)) × (next_of (held tables.now) block < 2 ^ 17) }
     ensures right { PlansChain (blocks_held tables.now) (held tables.now) block head result }
     ensures within { PlanFits (blocks_held tables.now) (held tables.now) result }
@@ -74,23 +74,23 @@ pub fn plan_chain(tables: &Tables, block: u32, head: u32) -> Option<Plan>
 }
 
 // The sibling takes the place of the parent, on whose side the block's leaf is.
-pub fn plan_raise(tables: &Tables, parent: Parent, side: Side) -> Plan
+fn plan_raise(tables: &Tables, parent: Parent, side: Side) -> Plan
     requires fits { (1 ≤ count_of (held tables.now)) × (free_of (held tables.now) < 2 ^ 17) }
     requires holds { IsParent (blocks_held tables.now) parent × (word (held tables.now) (address_of (blocks_held tables.now) parent.place) ≡ blocks_held tables.now + parent.node) }
     ensures right { (F b s : ℕ) → side_number side ≡ bit_at F s (position_of (blocks_held tables.now) (held tables.now) parent.node) → PlansRaise (blocks_held tables.now) F (held tables.now) b s (address_of (blocks_held tables.now) parent.place) (Some result) }
     ensures within { PlanFits (blocks_held tables.now) (held tables.now) (Some result) }
 {
     let word = nodes::word_of(tables.nodes, parent.node);
-    Plan::Raise {
-        above: parent.place,
+    Plan::Raise(FreedNode {
         node: parent.node,
+        above: parent.place,
         sibling: nodes::side_in(word, side.other()),
         free: tables.rows.first_free(),
-    }
+    })
 }
 
 // The block is the head of the chain that the walk has come to.
-pub fn plan_head(tables: &Tables, block: u32, walked: Walked) -> Plan
+fn plan_head(tables: &Tables, block: u32, walked: Walked) -> Plan
     requires fits { (1 ≤ count_of (held tables.now)) × (free_of (held tables.now) < 2 ^ 17) × (next_of (held tables.now) block < 2 ^ 17) }
     requires le_block { (1 ≤ block) × (block ≤ blocks_held tables.now) }
     requires inside { IsInside (blocks_held tables.now) walked }
@@ -115,6 +115,7 @@ pub fn plan_head(tables: &Tables, block: u32, walked: Walked) -> Plan
 }
 
 // The whole plan: walks by the block's own signature to its chain. None for unfit tables.
+#[inline(always)]
 pub fn plan_block(tables: &Tables, block: u32) -> Option<Plan>
     requires { Passed tables.now.rows.signatures.now (held tables.now) block }
     ensures right { PlansRight tables.now.rows.signatures.now (held tables.now) block result }
@@ -129,7 +130,7 @@ pub fn plan_block(tables: &Tables, block: u32) -> Option<Plan>
         return None;
     }
     let signature = rows.signature_of(block as usize);
-    let walked = walk::walk(tables, signature)?;
+    let walked = tables.walk(signature)?;
     if walked.reference == block {
         return Some(plan_head(tables, block, walked));
     }

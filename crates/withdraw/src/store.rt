@@ -1,18 +1,20 @@
-// The stores of a withdrawal, in the definition's order: one function for each kind of plan.
+// The stores of a withdrawal, in the definition's order: one function for each kind of plan. What each asks stands in one definition: no
+// type of lent tables can hold it, since a ghost field beside a `&mut` is not covered by the check.
 ghost use Rattle.std.specs.Prelude.{◌≡◌, [], ◌∷◌, ◌^◌, ◌≤◌, ◌<◌, Some};
-ghost use Rattle.model.specs.Tables.{free_of, count_of, next_at};
+ghost use Rattle.model.specs.Tables.{free_of, next_at};
 ghost use Rattle.model.specs.Stores.{stores, ◌↤◌};
 ghost use Rattle.model.specs.Withdraw.{withdrawal_stores, raise_stores};
 ghost use Rattle.tables.specs.Changed.{links_in, blocks_in, PacksIn, Becomes};
 ghost use Rattle.tables.specs.Places.{address_of, IsPlace};
 ghost use Rattle.withdraw.specs.Plan.{PlanFits, plan_stores};
+ghost use Rattle.withdraw.specs.Storing.{CanWithdraw};
 
-use crate::plan::Plan;
+use crate::plan::{FreedNode, Plan};
 use tables::{Place, Side, TablesMut};
 
 // The block's row becomes 0, and the count falls by one: the stores of every withdrawal.
 fn clear_row(tables: &mut TablesMut, block: usize)
-    requires { PacksIn tables.old × (block ≤ blocks_in tables.old) × (1 ≤ count_of (links_in tables.old)) }
+    requires { CanWithdraw tables.old block }
     ensures { Becomes tables.old tables.new (stores (links_in tables.old) (withdrawal_stores (links_in tables.old) block [])) }
 {
     let count = tables.count();
@@ -23,7 +25,7 @@ fn clear_row(tables: &mut TablesMut, block: usize)
 
 // The block before leads on past the block.
 fn unlink(tables: &mut TablesMut, block: usize, before: u32, next: u32)
-    requires { PacksIn tables.old × (block ≤ blocks_in tables.old) × (1 ≤ count_of (links_in tables.old)) × (before ≤ blocks_in tables.old) }
+    requires { CanWithdraw tables.old block × (before ≤ blocks_in tables.old) }
     ensures { Becomes tables.old tables.new (stores (links_in tables.old) (withdrawal_stores (links_in tables.old) block ((next_at before ↤ next) ∷ []))) }
 {
     clear_row(tables, block);
@@ -32,7 +34,7 @@ fn unlink(tables: &mut TablesMut, block: usize, before: u32, next: u32)
 
 // The next block becomes the reference at the place.
 fn lead(tables: &mut TablesMut, block: usize, place: Place, next: u32)
-    requires { PacksIn tables.old × (block ≤ blocks_in tables.old) × (1 ≤ count_of (links_in tables.old)) × IsPlace (blocks_in tables.old) place × (next < 2 ^ 17) }
+    requires { CanWithdraw tables.old block × IsPlace (blocks_in tables.old) place × (next < 2 ^ 17) }
     ensures { Becomes tables.old tables.new (stores (links_in tables.old) (withdrawal_stores (links_in tables.old) block ((address_of (blocks_in tables.old) place ↤ next) ∷ []))) }
 {
     clear_row(tables, block);
@@ -40,11 +42,17 @@ fn lead(tables: &mut TablesMut, block: usize, place: Place, next: u32)
 }
 
 // The sibling takes the place of its parent, which becomes the first free node.
-fn raise(tables: &mut TablesMut, block: usize, above: Place, node: usize, sibling: u32, free: u32)
-    requires packs { PacksIn tables.old × (block ≤ blocks_in tables.old) × (1 ≤ count_of (links_in tables.old)) }
-    requires inside { IsPlace (blocks_in tables.old) above × (1 ≤ node) × (node < blocks_in tables.old) × (sibling < 2 ^ 17) × (free < 2 ^ 17) × (free ≡ free_of (links_in tables.old)) }
-    ensures { Becomes tables.old tables.new (stores (links_in tables.old) (raise_stores (blocks_in tables.old) (links_in tables.old) block (address_of (blocks_in tables.old) above) node sibling)) }
+fn raise(tables: &mut TablesMut, block: usize, freed: FreedNode)
+    requires can_withdraw { CanWithdraw tables.old block }
+    requires inside { IsPlace (blocks_in tables.old) freed.above × (1 ≤ freed.node) × (freed.node < blocks_in tables.old) × (freed.sibling < 2 ^ 17) × (freed.free < 2 ^ 17) × (freed.free ≡ free_of (links_in tables.old)) }
+    ensures { Becomes tables.old tables.new (stores (links_in tables.old) (raise_stores (blocks_in tables.old) (links_in tables.old) block (address_of (blocks_in tables.old) freed.above) freed.node freed.sibling)) }
 {
+    let FreedNode {
+        node,
+        above,
+        sibling,
+        free,
+    } = freed;
     clear_row(tables, block);
     tables.set_node(node, 0, Side::Left, free, 0);
     tables.set_free(node as u32);
@@ -52,6 +60,7 @@ fn raise(tables: &mut TablesMut, block: usize, above: Place, node: usize, siblin
 }
 
 // Makes the stores of a plan.
+#[inline(always)]
 pub fn carry_out(tables: &mut TablesMut, block: u32, plan: Plan)
     requires packs { PacksIn tables.old × (1 ≤ block) × (block ≤ blocks_in tables.old) }
     requires plan_fits { PlanFits (blocks_in tables.old) (links_in tables.old) (Some plan) }
@@ -61,11 +70,6 @@ pub fn carry_out(tables: &mut TablesMut, block: u32, plan: Plan)
     match plan {
         Plan::Unlink { before, next } => unlink(tables, block, before, next),
         Plan::Lead { place, next } => lead(tables, block, place, next),
-        Plan::Raise {
-            above,
-            node,
-            sibling,
-            free,
-        } => raise(tables, block, above, node, sibling, free),
+        Plan::Raise(freed) => raise(tables, block, freed),
     }
 }

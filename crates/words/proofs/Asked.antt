@@ -1,13 +1,14 @@
 -- The questions of the splitter and the signer: what each no and what all yes make of the refusal, and the promises from there.
 -- Assumes nothing.
-use mathlib.Core.Path.{◌≡◌, ap, subst}
+use mathlib.Core.Path.{◌≡◌, refl, ap, subst}
+use mathlib.Core.Bool.{false}
 use mathlib.Core.List.{List}
 use Prim.Native.Nat.{ℕ, ◌-◌, ◌≤◌, ◌<◌}
 use native.Mathlib.Omega.{arith}
 use lib.ListN.{length}
 use denote.Ref.{Bor}
 use borrow.Author.Tests.{le-leb, lt-leb}
-use Rattle.model.specs.Questions.{ask}
+use Rattle.model.specs.Questions.{width_fits, ask}
 use Rattle.words.specs.Parts.{part_of}
 use Rattle.model.specs.Words.{Part, end_of, word_refusal, sign_refusal, IsPart, WordPromise, PlacePromise}
 
@@ -43,9 +44,9 @@ module _ (F K : ℕ) (text : List ℕ) where
   unfolding sign_refusal ask
   no_width h = simp (lt-leb 1 F h)
 
-  pub wide : 64 < F → 4 ≡ sign_refusal F K text
+  pub unfit : width_fits F ≡ false → 4 ≡ sign_refusal F K text
   unfolding sign_refusal ask
-  wide h = simp (le-leb 1 F (omega arith), lt-leb F 64 h)
+  unfit e = rw (e, sign_refusal, ask) refl
 
   module _ (low : 1 ≤ F) (high : F ≤ 64) where
     pub long : 4096 < length text → 12 ≡ sign_refusal F K text

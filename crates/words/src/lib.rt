@@ -5,46 +5,35 @@ mod question;
 mod signer;
 mod splitter;
 
+ghost use Rattle.std.specs.Prelude.{◌≤◌, length, IfOk};
 ghost use Rattle.answers.specs.Answers.{answer_of};
 ghost use Rattle.model.specs.Words.{WordPromise, PlacePromise, SignPromise};
+ghost use Rattle.words.specs.Parts.{start_in, size_in};
 ghost use Rattle.words.specs.Signed.{signature_or_0};
 
 use answers::Refusal;
+use std::ops::Range;
 
 // Word n of the text, counted from 1, as the part of the text that it occupies; the empty part at its end where there is none.
 // The request names this form: a refused text gives back a part too, so the answer's number is in a lent word.
 pub fn word<'a>(text: &'a [u8], n: u32, answer: &mut u32) -> &'a [u8]
     ensures { WordPromise text.entry n answer.new result }
 {
-    match splitter::find(text, n) {
-        Ok(place) => {
-            *answer = 0;
-            &text[place]
-        }
-        Err(refusal) => {
-            *answer = refusal.into();
-            &text[text.len()..]
-        }
+    let place = word_place(text, n);
+    *answer = answers::answer(&place);
+    match place {
+        Ok(place) => &text[place],
+        Err(_) => &text[text.len()..],
     }
 }
 
-// The same for a caller who cannot be handed a part: where it starts, and its size. Gives the answer back. The C interface has this
-// signature.
-pub fn word_place(text: &[u8], n: u32, start: &mut usize, size: &mut usize) -> u32
-    ensures { PlacePromise text.now n result start.new size.new }
+// The same for a caller who cannot be handed a part: its place.
+pub fn word_place(text: &[u8], n: u32) -> Result<Range<usize>, Refusal>
+    ensures promise { PlacePromise text.now n (answer_of result) (start_in text.now result) (size_in result) }
+    ensures inside { IfOk result (λ place. (place.start ≤ place.end) × (place.end ≤ length text.now)) }
 {
-    match splitter::find(text, n) {
-        Ok(place) => {
-            *start = place.start;
-            *size = place.len();
-            0
-        }
-        Err(refusal) => {
-            *start = text.len();
-            *size = 0;
-            refusal.into()
-        }
-    }
+    question::word_asks(text)?;
+    Ok(splitter::locate(text, n))
 }
 
 // The text's signature of the width, each word setting its first k different positions.

@@ -6,9 +6,6 @@ ghost use Rattle.model.specs.Words.{word_refusal, sign_refusal};
 use crate::signer::Signer;
 use answers::Refusal;
 
-// question 4: the width is 1 to this
-const WIDEST: u32 = 64;
-
 // question 12: the longest text
 const LONGEST_TEXT: usize = 4096;
 
@@ -32,7 +29,7 @@ pub fn signer(text: &[u8], width: u32, k: u32) -> Result<Signer, Refusal>
     ensures number { answer_of result ≡ sign_refusal width k text.now }
     ensures same { IfOk result (λ signer. (signer.width ≡ width) × (signer.k ≡ k)) }
 {
-    if !(1..=WIDEST).contains(&width) {
+    if !signature::is_width(width) {
         return Err(Refusal::Unfit);
     }
     word_asks(text)?;

@@ -4,8 +4,9 @@ ghost use Rattle.model.specs.Words.{triplet_position, word_signature, text_signa
 ghost use Rattle.words.specs.Pass.{Sets};
 
 use crate::splitter::is_separator;
+use signature::Position;
 
-// What a word has set so far: its own signature, and how many different positions that are.
+// What a word has set so far: its own signature, and how many different positions that are, so that they are not counted at each triplet.
 #[derive(Clone, Copy, Default)]
 struct Own {
     bits: u64,
@@ -24,22 +25,25 @@ pub struct Signer {
 
 impl Signer {
     // The position that a triplet sets.
-    fn position(self, a: u8, b: u8, c: u8) -> u32
-        ensures { (result ≡ triplet_position self.width a b c) × (1 ≤ result) × (result ≤ self.width) }
+    fn position(self, a: u8, b: u8, c: u8) -> Position
+        ensures { (result.number ≡ triplet_position self.width a b c) × (result.width ≡ self.width) }
     {
-        1 + (961 * u32::from(a) + 31 * u32::from(b) + u32::from(c)) % self.width
+        let triplet = 961 * u32::from(a) + 31 * u32::from(b) + u32::from(c);
+        Position {
+            width: self.width,
+            number: 1 + triplet % self.width,
+        }
     }
 
     // A word's own signature with one more triplet's position, unless that is set already or the word has set k.
-    fn add_position(self, own: Own, position: u32) -> Own
-        requires { (1 ≤ position) × (position ≤ self.width) }
-        ensures { (js : List ℕ) → Sets self.width self.k js own.bits own.count → Sets self.width self.k (js ++ (position ∷ [])) result.bits result.count }
+    fn add_position(self, own: Own, position: Position) -> Own
+        ensures { (js : List ℕ) → Sets position.width self.k js own.bits own.count → Sets position.width self.k (js ++ (position.number ∷ [])) result.bits result.count }
     {
-        if own.count >= self.k || signature::is_set(own.bits, self.width, position) {
+        if own.count >= self.k || position.is_set(own.bits) {
             return own;
         }
         Own {
-            bits: own.bits | (1 << (self.width - position)),
+            bits: own.bits | position.weight(),
             count: own.count + 1,
         }
     }

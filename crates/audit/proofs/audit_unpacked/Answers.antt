@@ -7,4 +7,4 @@ pub returns-in_err-tables : goal.returns-in_err-tables
 returns-in_err-tables c = unfit_unpacked _ _ _ c.in_err-tables.was c.from_residual.ensures c.of.ensures.asked
 
 pub returns : goal.returns
-returns c = answered_unpacked _ c.in_ok-tables.ensures.read c.in_ok-tables.tables.fits c.sound.ensures
+returns c = answered_unpacked c.in_ok-tables.ensures.read c.sound.ensures

@@ -6,14 +6,14 @@ use Rattle.tables.proofs.Fits.{packs_of}
 use Rattle.clear.proofs.Filling.{rows_length, cleared_tables}
 use Rattle.clear.proofs.Promised.{refuses_packed, refuses_packed_width, clears_packed}
 use Rattle.clear.proofs.clear.Goals as goal
-use Rattle.clear.proofs.clear.Goals.{then-not-lengths_fit-via-then-not-lengths_fit, then-not-lengths_fit-via-else-not-lengths_fit+then-not-width_fits}
+use Rattle.clear.proofs.clear.Goals.{then-not-lengths_fit-via-then-not-lengths_fit, then-not-lengths_fit-via-else-not-lengths_fit+then-not-is_width}
 
 pub returns-then-not-lengths_fit-clause-promise : goal.returns-then-not-lengths_fit-clause-promise
 returns-then-not-lengths_fit-clause-promise c =
     let e = sym c.lengths_fit.ensures in
     elim c.then-not-lengths_fit.branch [
       | then-not-lengths_fit-via-then-not-lengths_fit w ↦ refuses_packed _ _ _ _ (e ∙ w.if-not-lengths_fit.true)
-      | then-not-lengths_fit-via-else-not-lengths_fit+then-not-width_fits w ↦ refuses_packed_width _ _ _ _ (e ∙ w.if-not-lengths_fit.false) (sym w.width_fits.ensures ∙ w.if-not-width_fits.true)
+      | then-not-lengths_fit-via-else-not-lengths_fit+then-not-is_width w ↦ refuses_packed_width _ _ _ _ (e ∙ w.if-not-lengths_fit.false) (sym w.is_width.ensures ∙ w.if-not-is_width.true)
     ]
 
 pub returns-clause-promise : goal.returns-clause-promise
@@ -23,5 +23,5 @@ returns-clause-promise c =
     let e = sym c.lengths_fit.ensures ∙ c.if-not-lengths_fit.false in
     let q = packs_of B (length t.links.now) (length t.nodes.now) e in
     let P : Packs B c.clear_links.new.links t.nodes.now = record { rows_long = ap length c.clear_links.ensures ∙ rows_length B c.args.width; nodes_long = q.3 } in
-    clears_packed t.signatures.now t.links.now t.nodes.now c.args.width e (sym c.width_fits.ensures ∙ c.if-not-width_fits.false) _ _ _ (c.fill.ensures.after (λ y h. h))
+    clears_packed t.signatures.now t.links.now t.nodes.now c.args.width e (sym c.is_width.ensures ∙ c.if-not-is_width.false) _ _ _ (c.fill.ensures.after (λ y h. h))
     (cleared_tables B c.args.width _ _ _ q.0 c.clear_links.ensures P (c.free_rest.ensures _ P)) c.clear_links.auto.links c.free_rest.auto.nodes

@@ -1,25 +1,21 @@
 -- `convert::close_nodes` meets its contract. The invariant: the nodes before node `node` are packed.
 -- Assumes nothing.
 use Rattle.std.proofs.Common.{arith, length}
-use Rattle.model.specs.Packed.{packed_nodes}
-use Rattle.convert.proofs.Closing.{close_start, close_turn, close_end, close_parts, close_stored}
+use Rattle.convert.proofs.Closing.{close_turn, close_end, close_parts, close_stored}
 use Rattle.convert.proofs.close_nodes.Goals as goal
 
-pub loop-node-init : goal.loop-node-init
-loop-node-init c = let t = c.args.tables.now in close_start c.args.nodes.now (packed_nodes (length t.rows.signatures.now) t.rows.links.now)
-
-pub set_node-requires-clause-position_bound : goal.set_node-requires-clause-position_bound
-set_node-requires-clause-position_bound c =
+pub set_node-requires-clause-parts_fit : goal.set_node-requires-clause-parts_fit
+set_node-requires-clause-parts_fit c =
     let t = c.args.tables.now in
     let fit = c.requires.nodes_fit c.loop-node.node c.loop-node.auto.node (omega arith) in
-    let parts = close_parts c.node-position.ensures in
+    let parts = close_parts c.node.ensures in
     (omega (arith, fit.position, parts.position), omega (arith, fit.left, parts.left), omega (arith, fit.right, parts.right))
 
 pub loop-node-preserved : goal.loop-node-preserved
 loop-node-preserved c =
     let t = c.args.tables.now in
     close_turn (length t.rows.signatures.now) t.rows.links.now c.args.nodes.now _ _ c.loop-node.node t.fits.blocks_from t.fits.links_long c.requires.length c.loop-node.auto.node (omega arith) c.loop-node.invariant
-    (close_stored (close_parts c.node-position.ensures) _ _ _ c.set_node.ensures)
+    (close_stored (close_parts c.node.ensures) _ _ _ c.set_node.ensures)
 
 pub returns : goal.returns
 returns c =

@@ -17,15 +17,15 @@ returns-in_err-sound c =
     let n = number_some c.in_err-sound.field-0.0 in
     let t = c.in_ok-tables in
     let p = passed_on _ _ c.from_residual-in_err-sound.ensures in
-    pack_tables _ _ _ _ (sym c.lengths_fit.ensures ∙ c.if-not-lengths_fit.false) _ (rw p (answered_unpacked _ t.ensures.read t.tables.fits c.in_err-sound.ensures)) (λ z. omega (arith, p))
+    pack_tables _ _ _ _ (sym c.lengths_fit.ensures ∙ c.if-not-lengths_fit.false) _ (rw p (answered_unpacked t.ensures.read c.in_err-sound.ensures)) (λ z. omega (arith, p))
 
 pub close_nodes-requires-clause-nodes_fit : goal.close_nodes-requires-clause-nodes_fit
 close_nodes-requires-clause-nodes_fit c =
     let t = c.in_ok-tables.tables in
-    nodes_fit _ _ _ _ (audit_yes t.rows.signatures.now t.rows.links.now 0 (answered_unpacked _ (refl, refl) t.fits c.in_ok-sound.ensures) refl)
+    nodes_fit _ _ _ _ (audit_yes t.rows.signatures.now t.rows.links.now 0 (answered_unpacked (refl, refl) c.in_ok-sound.ensures) refl)
 
 pub returns : goal.returns
 returns c =
     let t = c.in_ok-tables in
     let e = sym c.lengths_fit.ensures ∙ c.if-not-lengths_fit.false in
-    packs_all _ _ _ _ e 0 (answered_unpacked _ t.ensures.read t.tables.fits c.in_ok-sound.ensures) refl _ _ c.copy_from_slice.ensures.after (rw (← t.ensures.read.0, ← t.ensures.read.1) c.close_nodes.ensures)
+    packs_all _ _ _ _ e 0 (answered_unpacked t.ensures.read c.in_ok-sound.ensures) refl _ _ c.copy_from_slice.ensures.after (rw (← t.ensures.read.0, ← t.ensures.read.1) c.close_nodes.ensures)

@@ -15,4 +15,4 @@ pub returns : goal.returns
 returns c =
     let t = c.in_ok-tables in
     let e = sym c.unpacked_lengths.ensures ∙ c.if-not-unpacked_lengths.false in
-    unpacks _ _ _ _ e 0 (answered_packed 0 t.ensures.read t.tables.fits t.ensures.asked c.in_ok-sound.ensures) refl _ _ c.copy_from_slice.ensures.after c.open_nodes.ensures
+    unpacks _ _ _ _ e 0 (answered_packed t.ensures.read t.ensures.asked c.in_ok-sound.ensures) refl _ _ c.copy_from_slice.ensures.after c.open_nodes.ensures

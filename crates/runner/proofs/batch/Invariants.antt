@@ -10,10 +10,10 @@ use Rattle.runner.proofs.batch.Given as goal
 
 abbrev pub invariant-loop-at : goal.invariant-loop-at
 invariant-loop-at l =
-    Batched l.bytes l.from l.end (lent_in l.initial.tables l.initial.work) (lent_in l.tables l.work) l.at l.used l.text
-    × (l.at ≡ l.from → l.used ≡ 0)
+    Batched l.bytes (lent_in l.initial.tables l.initial.work) (lent_in l.tables l.work) l.at l.used l.text
+    × (l.at ≡ 0 → l.used ≡ 0)
     × (length l.text ≡ length l.initial.text)
     × Same l.initial.tables l.initial.work l.tables l.work
 
 abbrev pub decreases-loop-at : goal.decreases-loop-at
-decreases-loop-at l = l.end - l.at
+decreases-loop-at l = length l.bytes - l.at

@@ -7,8 +7,8 @@ use Rattle.runner.proofs.Same.{same_none, same_more}
 use Rattle.runner.proofs.drain.Goals as goal
 
 pub loop-at-init : goal.loop-at-init
-loop-at-init g c = (going_none _ _ _, refl, same_none _ _)
+loop-at-init g c = (going_none _ _, refl, same_none _ _)
 
 pub loop-at-preserved : goal.loop-at-preserved
 loop-at-preserved g c =
-    (going_more _ _ _ _ _ _ _ _ _ c.loop-at.invariant.0 c.batch-served.ensures.served, search rules, same_more _ _ _ _ _ _ c.loop-at.invariant.2 c.batch-served.ensures.loans)
+    (going_more _ _ _ _ _ _ _ _ c.loop-at.invariant.0 c.batch-served.ensures.served, search rules, same_more _ _ _ _ _ _ c.loop-at.invariant.2 c.batch-served.ensures.loans)

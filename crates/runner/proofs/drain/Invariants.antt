@@ -10,9 +10,9 @@ use Rattle.runner.proofs.drain.Given as goal
 
 abbrev pub invariant-loop-at : goal.invariant-loop-at
 invariant-loop-at g l =
-    Going l.bytes l.end (lent_in l.initial.tables l.initial.work) (lent_in l.tables l.work) l.at
+    Going l.bytes (lent_in l.initial.tables l.initial.work) (lent_in l.tables l.work) l.at
     × (length l.text ≡ length l.initial.text)
     × Same l.initial.tables l.initial.work l.tables l.work
 
 abbrev pub decreases-loop-at : goal.decreases-loop-at
-decreases-loop-at g l = l.end - l.at
+decreases-loop-at g l = length l.bytes - l.at

@@ -1,7 +1,7 @@
 -- `signature::first_difference` meets its contract. The exclusive OR has its highest set bit, of weight 2 ^ k, at the position
 -- width - k. There the two differ, and before it they agree, and only the first difference is such a position (`Difference.antt`).
 -- Assumes nothing.
-use mathlib.Core.Path.{◌≡◌, ap, ◌∙◌}
+use mathlib.Core.Path.{◌≡◌, refl, ap, ◌∙◌}
 use mathlib.Core.Logic.{◌≢◌}
 use Prim.Native.Nat.{ℕ, suc, ◌+◌, ◌-◌, ◌/◌, ◌%◌, ◌^◌, ◌<◌, ◌≤◌}
 use native.Mathlib.Nat.{pos_of_ne-zero, lt_of_not-le, lt_of_lt_of_le, lt_of_le_of_lt, not-le_of_lt, div-eq_of_lt-le, pow-suc}
@@ -54,10 +54,14 @@ pub overflow_add-result : goal.overflow_add-result
 overflow_add-result c = let t = top c.args.width c.args.a c.args.b c.requires.1 c.requires.2 c.requires.3 c.requires.4 in
     omega (arith, t.count, t.inside)
 
+pub invariant_of-result : goal.invariant_of-result
+invariant_of-result c = let t = top c.args.width c.args.a c.args.b c.requires.1 c.requires.2 c.requires.3 c.requires.4 in
+    record { inside = (omega (arith, t.count), omega (arith, t.count, t.inside)); narrow = c.requires.1 }
+
 pub returns : goal.returns
 returns c = let F : ℕ = c.args.width in
     let a : ℕ = c.args.a in
     let b : ℕ = c.args.b in
     let t : Top F a b = top F a b c.requires.1 c.requires.2 c.requires.3 c.requires.4 in
     let e : count_leading_zeros 64 (bit_xor a b) - (64 - F) + 1 ≡ F - t.k = omega (arith, t.count, t.inside) in
-    e ∙ first_unique (is_first F a b c.requires.1 c.requires.2 c.requires.3 c.requires.4 t) (first_is F a b c.requires.2 c.requires.3 c.requires.4)
+    (e ∙ first_unique (is_first F a b c.requires.1 c.requires.2 c.requires.3 c.requires.4 t) (first_is F a b c.requires.2 c.requires.3 c.requires.4), refl)

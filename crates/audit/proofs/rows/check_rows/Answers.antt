@@ -22,6 +22,3 @@ loop-block-preserved c =
 pub returns-else-not-row_fits : goal.returns-else-not-row_fits
 returns-else-not-row_fits c =
     rows_end _ _ _ _ (rows_next _ _ _ _ c.loop-block.invariant c.width-width.ensures.value c.signature_of.ensures c.next_of.ensures c.filed_of-filed.ensures (sym c.row_fits.ensures ∙ c.if-not-row_fits.false)) (omega arith)
-
-pub returns : goal.returns
-returns c = absurd (omega arith)

@@ -4,7 +4,7 @@ use Prim.Native.Nat.{◌-◌}
 use native.Mathlib.Omega.{arith}
 use mathlib.Core.Path.{sym, ◌∙◌}
 use Rattle.model.proofs.Asking.{in_range}
-use Rattle.file.proofs.Planned.{no_node, too_large, differs, tested, a_split}
+use Rattle.file.proofs.Planned.{no_node, too_large, differs, a_split}
 use Rattle.file.proofs.plan.plan_split.Goals as goal
 use Rattle.file.proofs.plan.plan_split.Goals.{then-not-is_block-via-then-not-is_block, then-not-is_block-via-else-not-is_block+then-not-fits}
 
@@ -17,15 +17,14 @@ returns-then-not-is_block-clause-splits c = elim c.then-not-is_block.branch [
 pub first_difference-position-requires : goal.first_difference-position-requires
 first_difference-position-requires c = differs c.args.tables.now c.args.signature c.args.place c.args.leaf c.args.other _ _ c.first_free-node.ensures c.width-width.ensures.value c.requires.differ (sym c.fits.ensures ∙ c.if-not-fits.false)
 
-pub is_set-requires : goal.is_set-requires
-is_set-requires c = tested c.args.tables.now c.args.signature c.args.place c.args.leaf c.args.other _ _ c.first_free-node.ensures c.width-width.ensures.value c.requires.differ (sym c.fits.ensures ∙ c.if-not-fits.false) _ c.first_difference-position.ensures
-
 pub returns-clause-splits : goal.returns-clause-splits
-returns-clause-splits c = a_split c.args.tables.now c.args.signature c.args.place c.args.leaf c.args.other _ _ c.first_free-node.ensures c.width-width.ensures.value c.requires.differ (sym c.fits.ensures ∙ c.if-not-fits.false) _ c.first_difference-position.ensures _ _ c.is_set.ensures c.of-side.ensures
+returns-clause-splits c =
+    let p = c.first_difference-position.ensures in
+    a_split c.args.tables.now c.args.signature c.args.place c.args.leaf c.args.other _ _ c.first_free-node.ensures c.width-width.ensures.value c.requires.differ (sym c.fits.ensures ∙ c.if-not-fits.false) _ p.0 _ _ (rw p.1 at c.is_set.ensures) c.into-side.ensures
 
 pub returns-clause-within : goal.returns-clause-within
 returns-clause-within c =
     let r = in_range _ (c.blocks-2.result - 1) (sym c.is_block.ensures ∙ c.if-not-is_block.false) in
     let q = c.requires.inside in
-    let d = tested c.args.tables.now c.args.signature c.args.place c.args.leaf c.args.other _ _ c.first_free-node.ensures c.width-width.ensures.value c.requires.differ (sym c.fits.ensures ∙ c.if-not-fits.false) _ c.first_difference-position.ensures in
-    (q.0, q.1, r.0, omega (arith, r.1, q.0, c.blocks-2.ensures), q.2, omega (arith, d.1, d.2))
+    let p = c.first_difference-position.result in
+    (q.0, q.1, r.0, omega (arith, r.1, q.0, c.blocks-2.ensures), q.2, omega (arith, p.inside.1, p.narrow))

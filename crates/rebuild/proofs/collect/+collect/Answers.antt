@@ -1,10 +1,12 @@
 -- `rebuild::collect::collect` meets its contract: nothing, one head, or the heads of the two sides. The measure is the number of
 -- untested positions.
 -- Assumes nothing.
-use Rattle.std.proofs.Common.{ℕ, ◌-◌, length, arith, sym, ap, subst}
+use Rattle.std.proofs.Common.{ℕ, ◌-◌, length, arith, sym, ap, subst, drop}
 use Rattle.std.proofs.lemmas.List.Edits.{sets}
 use Rattle.model.specs.Packed.{unpacked}
 use Rattle.model.specs.Rebuild.{heads_from}
+use Rattle.std.proofs.Math.Seq.{length-take-le}
+use Rattle.std.proofs.lemmas.List.{length-drop}
 use Rattle.rebuild.specs.Walkable.{Walkable}
 use Rattle.rebuild.proofs.Heads.{heads_from_none}
 use Rattle.rebuild.proofs.Collecting.{heads_leaf, walk_on, onward_count, onward_end}
@@ -15,23 +17,23 @@ returns-then-reference-eq0 t c =
     let a = c.args in
     let t = a.tables.now in
     let e = heads_from_none (length t.rows.signatures.now) (unpacked t.rows.links.now t.nodes.now) a.untested a.reference c.if-reference-eq0.true in
-    record { end = omega (arith, ap length e); list = ap (sets a.scratch.now a.at) (sym e) }
+    record { within = omega (arith, c.requires.room, ap length e); count = sym (ap length e); list = ap (sets a.scratch.now 0) (sym e) }
 
-pub bounds-scratch-at : goal.bounds-scratch-at
-bounds-scratch-at t c =
+pub bounds-scratch-0 : goal.bounds-scratch-0
+bounds-scratch-0 t c =
     let a = c.args in
     let t = a.tables.now in
     omega (arith, ap length (heads_leaf (length t.rows.signatures.now) (unpacked t.rows.links.now t.nodes.now) a.untested a.reference c.if-reference-eq0.false (omega arith)), c.requires.room)
 
-pub returns-then-place-blocks : goal.returns-then-place-blocks
-returns-then-place-blocks t c =
+pub returns-then-at-blocks : goal.returns-then-at-blocks
+returns-then-at-blocks t c =
     let a = c.args in
     let t = a.tables.now in
     let e = heads_leaf (length t.rows.signatures.now) (unpacked t.rows.links.now t.nodes.now) a.untested a.reference c.if-reference-eq0.false (omega arith) in
-    record { end = omega (arith, ap length e); list = ap (sets a.scratch.now a.at) (sym e) }
+    record { within = omega (arith, c.requires.room, ap length e); count = sym (ap length e); list = ap (sets a.scratch.now 0) (sym e) }
 
-pub collect-middle-requires : goal.collect-middle-requires
-collect-middle-requires t c =
+pub collect-found-requires : goal.collect-found-requires
+collect-found-requires t c =
     let a = c.args in
     let s = a.tables.now in
     let B = length s.rows.signatures.now in
@@ -52,9 +54,11 @@ collect-requires t c =
     let parts = rw c.blocks-blocks.ensures at c.node-left.ensures in
     let e = parts.left in
     let f = parts.right in
-    let one = c.collect-middle in
+    let one = c.collect-found in
+    let rest = length-drop one.result one.new.scratch in
+    let whole = length-take-le (length one.new.scratch - one.result) (drop one.result one.new.scratch) (omega arith) in
     let heads : ℕ → ℕ = λ r. length (heads_from B U (a.untested - 1) r) in
-    (omega (arith, K.more, c.decreases), (subst (Walkable B U (a.untested - 1)) (sym f) K.right, omega (arith, c.requires.room, onward_count _ _ _ _ K, one.ensures.end, one.auto.scratch, ap heads e, ap heads f)))
+    (omega (arith, K.more, c.decreases), (subst (Walkable B U (a.untested - 1)) (sym f) K.right, omega (arith, c.requires.room, onward_count _ _ _ _ K, one.ensures.count, one.auto.scratch, ap heads e, ap heads f)))
 
 pub returns : goal.returns
 returns t c =
@@ -62,7 +66,7 @@ returns t c =
     let s = a.tables.now in
     let K = walk_on (length s.rows.signatures.now) (unpacked s.rows.links.now s.nodes.now) a.untested a.reference c.requires.walkable (omega arith) in
     let parts = rw c.blocks-blocks.ensures at c.node-left.ensures in
-    let one = c.collect-middle in
+    let one = c.collect-found in
     let two = c.collect in
-    let whole = onward_end _ _ _ _ K _ _ _ _ _ _ _ _ parts.left parts.right one.ensures.end one.ensures.list two.ensures.end two.ensures.list in
-    record { end = whole.0; list = whole.1 }
+    let whole = onward_end _ _ _ _ K a.scratch.now one.new.scratch two.new.scratch _ _ _ _ parts.left parts.right c.requires.room one.ensures.count one.ensures.list two.ensures.count two.ensures.list in
+    record { within = omega (arith, whole.0, c.requires.room); count = whole.0; list = whole.1 }

@@ -17,8 +17,8 @@ bounds-group-low t c =
     let K = known c.decreases c.requires.group c.requires.lengths c.requires.le_first c.split-position.ensures c.if-size-lt2.false in
     omega (arith, bounds K)
 
-pub set_node-requires-clause-position_bound : goal.set_node-requires-clause-position_bound
-set_node-requires-clause-position_bound t c =
+pub set_node-requires-clause-parts_fit : goal.set_node-requires-clause-parts_fit
+set_node-requires-clause-parts_fit t c =
     let K = known c.decreases c.requires.group c.requires.lengths c.requires.le_first c.split-position.ensures c.if-size-lt2.false in
     node_fits K _ _ c.reference-left.ensures c.reference-right.ensures
 

@@ -22,7 +22,7 @@ sum-requires-clause-can c =
     let a = c.args in (
       tt,
       serves_from_places (YieldsList-from_slice a.group.now cc) (λ x q k. search rules)
-          (λ x k l e. let b : (1 ≤ x.now) × (x.now ≤ length a.self.now.signatures.now) = is_block a.group.now k x.now _ l e (c.requires.blocks k l) in search rules),
+          (λ x k l e. let b : (1 ≤ x.now) × (x.now ≤ length a.self.now.signatures.now) = is_block a.group.now k x.now _ l e (c.requires k l) in search rules),
     )
 
 pub sum-requires-clause-fits : goal.sum-requires-clause-fits
@@ -30,17 +30,17 @@ sum-requires-clause-fits c =
     let s = c.args.self.now in
     let p = c.args.position in
     let g = c.args.group.now in
-    let bit = λ (b : ℕ). bit_at s.width (signature_of s.signatures.now b) p in
+    let bit = λ (b : ℕ). bit_at p.width (signature_of s.signatures.now b) p.number in
     fits_by_from_yields_list bit g c.map.result (2 ^ 64)
     (YieldsList-from_map _ bit (YieldsList-at c.map.ensures.source (YieldsList-from_slice g cc)) c.map.ensures.closure (λ x r q k. search rules))
-    (omega (arith, ones_sum s.width (signature_of s.signatures.now) p g, keep_few (λ b. eqb (bit b) 1) g, c.iter.ensures.bound, c.iter.ensures.len))
+    (omega (arith, ones_sum p.width (signature_of s.signatures.now) p.number g, keep_few (λ b. eqb (bit b) 1) g, c.iter.ensures.bound, c.iter.ensures.len))
 
 pub returns : goal.returns
 returns c =
     let s = c.args.self.now in
     let p = c.args.position in
     let g = c.args.group.now in
-    let bit = λ (b : ℕ). bit_at s.width (signature_of s.signatures.now b) p in
+    let bit = λ (b : ℕ). bit_at p.width (signature_of s.signatures.now b) p.number in
     sum_by_from_yields_List bit g c.map.result _ c.sum.ensures.ran
     (YieldsList-from_map _ bit (YieldsList-at c.map.ensures.source (YieldsList-from_slice g cc)) c.map.ensures.closure (λ x r q k. search rules))
-    ∙ sym (ones_sum s.width (signature_of s.signatures.now) p g)
+    ∙ sym (ones_sum p.width (signature_of s.signatures.now) p.number g)

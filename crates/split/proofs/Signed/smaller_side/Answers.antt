@@ -9,10 +9,10 @@ use Rattle.split.proofs.Signed.smaller_side.Goals as goal
 pub overflow_sub-group : goal.overflow_sub-group
 overflow_sub-group c =
     let a = c.args in
-    omega (arith, sides_length a.self.now.width (signature_of a.self.now.signatures.now) a.position a.group.now)
+    omega (arith, sides_length a.position.width (signature_of a.self.now.signatures.now) a.position.number a.group.now)
 
 pub returns : goal.returns
 unfolding smaller
 returns c =
     let a = c.args in
-    omega (arith, sides_length a.self.now.width (signature_of a.self.now.signatures.now) a.position a.group.now)
+    omega (arith, sides_length a.position.width (signature_of a.self.now.signatures.now) a.position.number a.group.now)

@@ -5,4 +5,4 @@ use Rattle.split.proofs.Signed.split.Goals as goal
 
 pub returns : goal.returns
 returns c =
-    halve _ _ _ _ _ _ c.best_position-position.ensures.best c.partition-low.ensures
+    halve _ _ _ _ _ _ c.best_position-position.ensures.best (rw c.best_position-position.ensures.width at c.partition-low.ensures)

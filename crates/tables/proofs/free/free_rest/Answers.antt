@@ -20,7 +20,7 @@ loop-node-init c = (omega arith, refl, λ links P. refl)
 pub set_node-requires : goal.set_node-requires
 set_node-requires c =
     let p = c.requires in
-    record { le_node = (omega (arith, p.0, c.loop-node.auto.node), omega (arith, c.loop-node.invariant.1, p.3, c.loop-node-test.true)); position_bound = (omega arith, omega (arith, p.2, c.loop-node-test.true), omega arith) }
+    record { le_node = (omega (arith, p.0, c.loop-node.auto.node), omega (arith, c.loop-node.invariant.1, p.3, c.loop-node-test.true)); parts_fit = rw c.leads_to.ensures (omega arith, omega (arith, p.2, c.loop-node-test.true), omega arith) }
 
 pub loop-node-preserved : goal.loop-node-preserved
 loop-node-preserved c =
@@ -30,7 +30,7 @@ loop-node-preserved c =
     let w = c.set_node in (
       omega (arith, k),
       w.auto.nodes ∙ l.invariant.1,
-      (λ links P. freed c.args.blocks l.node (l.node + 1) links l.nodes w.new.nodes _ (still_packs _ _ _ _ l.invariant.1 P) (omega (arith, p.0, l.auto.node)) (omega (arith, k)) (omega (arith, k, p.2)) (sym (free_some c.args.blocks (l.node + 1) (omega (arith, k)))) w.ensures (l.invariant.2 links P)),
+      (λ links P. freed c.args.blocks l.node (l.node + 1) links l.nodes w.new.nodes _ (still_packs _ _ _ _ l.invariant.1 P) (omega (arith, p.0, l.auto.node)) (omega (arith, k)) (omega (arith, k, p.2)) (sym (free_some c.args.blocks (l.node + 1) (omega (arith, k)))) (rw c.leads_to.ensures at w.ensures) (l.invariant.2 links P)),
     )
 
 pub returns-then-first-last : goal.returns-then-first-last
@@ -43,7 +43,7 @@ returns-then-first-last c links P =
     let w = c.set_node-then-first-last in
     free_end B (l.node + 1) (unpacked links w.new.nodes) _ (omega (arith, e))
     (freed B l.node 0 links l.nodes w.new.nodes _ (still_packs _ _ _ _ l.invariant.1 P) from (omega (arith, e, from)) (omega arith) (sym (free_none B (l.node + 1) (omega (arith, e))))
-    (w.ensures ∙ ap (λ (n : ℕ). set l.nodes (n - 1) 0) e) (l.invariant.2 links P))
+    ((rw c.leads_to-then-first-last.ensures at w.ensures) ∙ ap (λ (n : ℕ). set l.nodes (n - 1) 0) e) (l.invariant.2 links P))
 
 pub returns-else-first-last : goal.returns-else-first-last
 returns-else-first-last c links P =

@@ -8,7 +8,7 @@ use Rattle.tables.proofs.form.TablesForm.node.Goals as goal
 pub returns : goal.returns
 returns c =
     let P = c.args.self.now.fits.packs in
-    let parts = c.parts_in.ensures in
+    let parts = c.into.ensures in
     record {
       position = parts.0 ∙ ap position_in c.word_of.ensures ∙ sym (node_position _ _ _ P _ c.requires.0);
       left = parts.1 ∙ ap left_in c.word_of.ensures ∙ sym (node_left _ _ _ P _ c.requires.0);

@@ -1,11 +1,12 @@
 -- `tables::TablesMut::set_reference` meets its contract: a store in front, or to a side of a node.
 -- Assumes nothing.
 use native.Mathlib.Omega.{arith}
+use mathlib.Core.Path.{refl}
 use Rattle.tables.proofs.Lending.{row_stored, side_stored}
 use Rattle.tables.proofs.lent.TablesMut.set_reference.Goals as goal
 
 pub returns-in-Root : goal.returns-in-Root
-returns-in-Root c = rw c.in-Root.is (row_stored c.args.self.now c.requires.0 _ _ (omega arith))
+returns-in-Root c = rw c.in-Root.is (row_stored c.args.self.now c.requires.0 _ _ _ (omega arith) refl)
 
 pub returns-in-Below : goal.returns-in-Below
 returns-in-Below c =

@@ -2,11 +2,9 @@
 -- Assumes nothing.
 use mathlib.Core.Path.{refl}
 use Rattle.model.specs.Words.{triplet_position}
-use Rattle.words.proofs.Triplets.{position_inside}
 use Rattle.words.proofs.signer.Signer.position.Goals as goal
 
 pub returns : goal.returns
 unfolding triplet_position
 returns c =
-    let i = position_inside c.args.self.width c.args.a c.args.b c.args.c c.args.self.some in
-    rw (c.from.ensures, c.from-2.ensures, c.from-3.ensures) (refl, i.0, i.1)
+    rw (c.from.ensures, c.from-2.ensures, c.from-3.ensures) (refl, refl)

@@ -19,7 +19,7 @@ pub loop-a-preserved : goal.loop-a-preserved
 loop-a-preserved c =
     let t = c.in-Some.ensures.steps in
     let i = c.loop-a.invariant in
-    (t.0 ∙ i.0, word_next _ _ _ _ _ _ _ _ _ _ _ _ i.0 t.1.0 t.1.1 t.1.2 c.position.ensures.0 c.add_position-own.ensures i.1)
+    (t.0 ∙ i.0, word_next _ _ _ _ _ _ _ _ _ _ _ _ i.0 t.1.0 t.1.1 t.1.2 c.position.ensures.0 (rw c.position.ensures.1 at c.add_position-own.ensures) i.1)
 
 pub returns : goal.returns
 returns c =

@@ -1,8 +1,8 @@
--- `withdraw::ask::ask` meets its contract: at each return the answers so far say which question is the first with a no.
+-- `withdraw::question::ask` meets its contract: at each return the answers so far say which question is the first with a no.
 -- Assumes nothing.
 use mathlib.Core.Path.{sym, ◌∙◌}
 use Rattle.withdraw.proofs.Asked.{refuses_5, refuses_8, refuses_none, passes}
-use Rattle.withdraw.proofs.ask.ask.Goals as goal
+use Rattle.withdraw.proofs.question.ask.Goals as goal
 
 pub returns-then-not-is_block-clause-number : goal.returns-then-not-is_block-clause-number
 returns-then-not-is_block-clause-number c = refuses_5 c.args.tables.now _ _ c.blocks-2.ensures (sym c.is_block.ensures ∙ c.if-not-is_block.true)
