@@ -4,7 +4,8 @@ ghost use Rattle.audit.specs.Audit.{row_ok, rows_twin};
 
 use tables::Rows;
 
-// One row: the signature is below 2 ^ width, and the block is filed, or else the row and the signature are 0.
+// One row: the signature is below 2 ^ width, and the block is filed, or else the row and the signature are 0. (The filed word is a number, in
+// document 01's tables, and may be any where they are not sound.)
 #[tactic(auto, unfolding(crate::specs::Audit::row_ok))]
 fn row_fits(signature: u64, next: u32, filed: u32, width: u32) -> bool
     ensures { result ≡ row_ok width signature next filed }

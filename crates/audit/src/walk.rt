@@ -55,7 +55,8 @@ fn leaf(rows: &Rows, tested: Tested, reference: u32, lent: Lent) -> Option<Lent>
     Some(Lent { blocks, ..lent })
 }
 
-// The subtree at a reference, below the tested positions. What is left of that lent, where the subtree is fit.
+// The subtree at a reference, below the tested positions. What is left of that lent, where the subtree is fit. (What the reference leads to is
+// told by one comparison with the number of blocks, and in `leaf` by one with 0.)
 fn walk<F: Form>(
     form: &F,
     tested: Tested,

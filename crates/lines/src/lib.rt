@@ -27,8 +27,8 @@ fn push(text: &mut [u8], at: usize, byte: u8) -> usize
 }
 
 // The digits of n.
-// `Display` stays out: a line always succeeds, and no clause of std says that `fmt` does where the text has room. The kit's crate `itoa`
-// proves, and takes a fifth longer.
+// `Display` was tried in three forms: no clause of std says that `fmt` succeeds where the text has room, so the proof did not close. The kit's
+// crate `itoa` proves, and takes a fifth longer.
 #[tactic(auto, using(crate::proofs::Laws::len_one, crate::proofs::Laws::len_more))]
 fn digits(text: &mut [u8], at: usize, n: u32) -> usize
     requires { at + length (decimal n) ≤ length text.old }

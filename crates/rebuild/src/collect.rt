@@ -8,7 +8,8 @@ ghost use Rattle.rebuild.specs.Walkable.{Walkable};
 use tables::nodes::Parts;
 use tables::{Form, Tables};
 
-// Writes the heads of the chains below a reference at the front of the scratch. The result is how many they are.
+// Writes the heads of the chains below a reference, which is 0, a leaf or a node, at the front of the scratch. The result is how many they
+// are.
 pub(crate) fn collect(tables: &Tables, scratch: &mut [u32], reference: u32, untested: u32) -> usize
     requires walkable { Walkable (blocks_held tables.now) (held tables.now) untested reference }
     requires room { length (heads_from (blocks_held tables.now) (held tables.now) untested reference) ≤ length scratch.old }

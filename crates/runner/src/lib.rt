@@ -127,9 +127,8 @@ fn last<W: Write>(
     text::flush(writer, &text[..used]);
 }
 
-// Serves every whole slip until the input ends, and answers how many bytes are left, at the front (their part of the buffer, handed back,
-// would keep it lent). Nothing says that the input ends, so the
-// loop counts its turns to a number that no run comes to.
+// Serves every whole slip until the input ends, and answers how many bytes are left, at the front, as a read answers how many it gave.
+// Nothing says that the input ends, so the loop counts its turns to a number that no run comes to.
 fn serve_whole<R: Read, W: Write>(
     reader: &mut R,
     writer: &mut W,

@@ -1,9 +1,9 @@
 // The word of a node, 1 to B - 1: position times 2^34, plus left times 2^17, plus right. The only place in code that knows it.
 // Nodes are words in a slice, and references are indices: document 01 lays the tables out so, in memory that the caller lends. A reference
 // is one of its words: 0 for none, a block for its leaf, B more than its number for a node. The three are told apart where they are met, by
-// comparisons with B: all but the rebuild's walk let two of them go the same way, so an enum would be matched with arms alike. A node's
-// number, and a reference below 2^17, have their bounds in clauses: types for them, handed on, would need clauses again, that they are of
-// these tables.
+// a comparison with B, and one with 0 where none is no leaf: an enum would be matched by what is compared now, with arms alike wherever two of
+// the three go the same way. A node's number, and a reference below 2^17, have their bounds in clauses: types for them, handed on, would
+// need clauses again, that they are of these tables.
 ghost use Rattle.std.specs.Prelude.{◌≡◌, ◌+◌, ◌-◌, ◌^◌, ◌≤◌, ◌<◌, length, get_or, set};
 ghost use Rattle.model.specs.Packed.{node_word, position_in, left_in, right_in, part_in, with_part};
 ghost use Rattle.tables.specs.Nodes.{sides_word};
@@ -107,7 +107,8 @@ pub fn side_in(word: u64, side: Side) -> u32
     }
 }
 
-// The word with one part changed: 0 is the position, 1 the left, any other the right, as an address divided by three leaves them.
+// The word with one part changed: 0 is the position, 1 the left, any other the right, as document 01's addresses leave them when divided by
+// three.
 pub fn with_part(word: u64, part: usize, value: u32) -> u64
     requires { value < 2 ^ 17 }
     ensures { result ≡ with_part word part value }

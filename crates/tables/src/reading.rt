@@ -1,5 +1,5 @@
-// What is read of lent tables while they are stored to. (`Rows` reads the same words by the same functions; it cannot be had of tables while
-// they are stored to, since it would borrow them.)
+// What is read of lent tables while they are stored to. (`Rows` reads the same words. It cannot be had here: its type says that the width is
+// one, of which a store knows nothing.)
 ghost use Rattle.std.specs.Prelude.{◌≡◌, ◌≤◌, ◌<◌};
 ghost use Rattle.model.specs.Tables.{count_of, next_of, left_of};
 ghost use Rattle.tables.specs.Changed.{links_in, blocks_in, PacksIn};

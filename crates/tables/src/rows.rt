@@ -104,7 +104,7 @@ impl Rows<'_> {
         next_of(self.links, block)
     }
 
-    // Is the block filed?
+    // The block's filed word.
     pub fn filed_of(&self, block: usize) -> u32
         requires { (1 ≤ block) × (block ≤ length self.now.signatures.now) }
         ensures { result ≡ filed_of self.now.links.now block }

@@ -56,8 +56,8 @@ fn place_below(nodes: &[u64], width: u32, signature: u64, node: usize) -> Place
     Place::Below { node, side }
 }
 
-// Walks from the root, on bare slices at any width; none where it meets an unfit node. The loop keeps the numbers of the last two nodes, 0 for none: it takes a tenth
-// longer where it keeps their places. Inlined, so that no result goes through memory.
+// Walks from the root, on bare slices, at a width up to 64; none where it meets an unfit node. The loop keeps the numbers of the last two
+// nodes, 0 for none: it takes a tenth longer where it keeps their places. Inlined, so that no result goes through memory.
 #[inline(always)]
 pub fn walk(
     links: &[u32],

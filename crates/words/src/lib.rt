@@ -15,7 +15,7 @@ use answers::Refusal;
 use std::ops::Range;
 
 // Word n of the text, counted from 1, as the part of the text that it occupies; the empty part at its end where there is none.
-// The request names this form: a refused text gives back a part too, so the answer's number is in a lent word.
+// Document 01 names this form: a refused text gives back a part too, so the answer's number is in a lent word.
 pub fn word<'a>(text: &'a [u8], n: u32, answer: &mut u32) -> &'a [u8]
     ensures { WordPromise text.entry n answer.new result }
 {

@@ -6,7 +6,7 @@ ghost use Rattle.words.specs.Pass.{Sets};
 use crate::splitter::is_separator;
 use signature::Position;
 
-// What a word has set so far: its own signature, and how many different positions that are, so that they are not counted at each triplet.
+// What a word has set so far: its own signature, and how many different positions that are, which document 01's K bounds.
 #[derive(Clone, Copy, Default)]
 struct Own {
     bits: u64,
