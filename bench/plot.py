@@ -1,5 +1,5 @@
 #!/usr/bin/env python3
-"""Draws docs/performance.svg from the benchmark's output on standard input: time of a search against its compares, B 65,535, rebuilt."""
+"""Draws docs/performance.svg from the benchmark's output on standard input: time of a search against its compares, width 64, B 65,535."""
 import math
 import sys
 
@@ -13,10 +13,10 @@ def rows():
     columns = []
     for line in sys.stdin:
         cells = [c.strip() for c in line.split('|')[1:-1]]
-        if 'us a search' in cells and 'store' in cells:
+        if 'us a search' in cells:
             columns = cells
         row = dict(zip(columns, cells))
-        if row.get('tree') == 'rebuilt' and 'weight 32, B 65535' in row['store']:
+        if 'width' not in columns and row.get('tree') == 'rebuilt' and 'weight 32, B 65535' in row['store']:
             us = float(row['us a search'])
             yield float(row['compares']), [us / float(row[ratio]) if ratio else us for _, _, ratio in SERIES]
 

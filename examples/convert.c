@@ -31,7 +31,7 @@ static void show_nodes(void) {
 static void search(uint64_t query) {
     uint8_t marks[BLOCKS];
     uint32_t output[BLOCKS], found, compares, bits_read;
-    uint32_t answer = sigtree_search(signatures, BLOCKS, links, SIGTREE_LINKS(BLOCKS), nodes, SIGTREE_NODES(BLOCKS), query, marks,
+    uint32_t answer = sigtree_search(signatures, BLOCKS, links, SIGTREE_LINKS(BLOCKS), nodes, SIGTREE_NODES(BLOCKS), &query, 1, marks,
                                      BLOCKS, output, BLOCKS, &found, &compares, &bits_read);
     printf("search: answer %" PRIu32 ", %" PRIu32 " compares, blocks", answer, compares);
     for (uint32_t i = 0; i < found; i++) printf(" %" PRIu32, output[i]);

@@ -7,7 +7,7 @@ const SIGNATURES: [u64; 5] = [0b1011, 0b0110, 0b1110, 0b0110, 0];
 const OLD_LINKS: [u32; 27] = [4, 5, 6, 3, 4, 0, 1, 4, 1, 0, 1, 0, 1, 0, 0, 1, 2, 7, 2, 1, 3, 0, 4, 0, 0, 0, 0];
 
 fn search(index: &Index, query: u64) -> Result<(), Refused> {
-    let found = index.search(query)?;
+    let found = index.search(&[query])?;
     let blocks: String = found.blocks.iter().map(|b| format!(" {b}")).collect();
     println!("search: answer 0, {} compares, blocks{blocks}", found.compares);
     Ok(())

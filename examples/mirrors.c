@@ -19,14 +19,14 @@ static const uint64_t minutes[BLOCKS] = {1, 2, 4, 5}; /* 001, 010, 100, 101 */
 
 static void fill(struct mirror *mirror, const uint32_t order[BLOCKS]) {
     uint32_t refused = sigtree_clear(TABLES(mirror), WIDTH);
-    for (int i = 0; i < BLOCKS; i++) refused |= sigtree_file(TABLES(mirror), order[i], minutes[order[i] - 1]);
+    for (int i = 0; i < BLOCKS; i++) refused |= sigtree_file(TABLES(mirror), order[i], &minutes[order[i] - 1], 1);
     if (refused != 0) printf("%s: a call was refused\n", mirror->name);
 }
 
 static void quote(const struct mirror *mirror, uint64_t query) {
     uint8_t marks[BLOCKS];
     uint32_t output[BLOCKS], found, compares, bits_read;
-    uint32_t answer = sigtree_search(TABLES(mirror), query, marks, BLOCKS, output, BLOCKS, &found, &compares, &bits_read);
+    uint32_t answer = sigtree_search(TABLES(mirror), &query, 1, marks, BLOCKS, output, BLOCKS, &found, &compares, &bits_read);
     printf("%s: answer %" PRIu32 ", %" PRIu32 " compares, %" PRIu32 " bits read, blocks", mirror->name, answer, compares, bits_read);
     for (uint32_t i = 0; i < found; i++) printf(" %" PRIu32, output[i]);
     printf("\n");

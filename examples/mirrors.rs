@@ -9,12 +9,12 @@ const ORDERS: [(&str, [u32; 4]); 2] = [("east", [1, 2, 3, 4]), ("west", [3, 4, 1
 
 fn filled(order: [u32; 4]) -> Result<Index, Refused> {
     let mut index = Index::new(MINUTES.len(), WIDTH)?;
-    order.iter().try_for_each(|&block| index.file(block, MINUTES[block as usize - 1]))?;
+    order.iter().try_for_each(|&block| index.file(block, &[MINUTES[block as usize - 1]]))?;
     Ok(index)
 }
 
 fn quote(name: &str, index: &Index, query: u64) -> Result<(), Refused> {
-    let found = index.search(query)?;
+    let found = index.search(&[query])?;
     let blocks: String = found.blocks.iter().map(|b| format!(" {b}")).collect();
     println!("{name}: answer 0, {} compares, {} bits read, blocks{blocks}", found.compares, found.bits_read);
     Ok(())

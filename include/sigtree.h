@@ -1,16 +1,24 @@
 /* sigtree: a signature tree over three lent tables. This header is the manual of its calls.
  *
- * A signature is a number below 2^F; F, the width, is 1 to 64. Position j, 1 to F, counts from the left and has weight 2^(F - j). A
- * signature s covers a query q when (s & q) == q. A block is 1 to B and has at most one signature.
+ * A signature is a number below 2^F; F, the width, is 1 to 512. Position j, 1 to F, counts from the left and has weight 2^(F - j). A
+ * signature s covers a query q when every position set in q is set in s. A block is 1 to B and has at most one signature.
  *
- * The caller owns all memory. The index lives in three slices, the tables; B is 1 to 65,535:
+ * A signature or a query is lent and stored as W words of 64 bits, W being F / 64 rounded up, high word first: the weight 2^k stands in
+ * word W - 1 - k / 64, at bit k % 64. The bits of word 0 from 2^F on are 0. So s covers q when (s[i] & q[i]) == q[i] for each word i. At a
+ * width up to 64 it is one word, the number itself. At width 70:
  *
- *    signatures   B words of 64 bits           block b at index b - 1
+ *     word 0: 58 bits 0, then positions 1 to 6          word 1: positions 7 to 70
+ *
+ * The caller owns all memory. The index lives in three slices, the tables; B, the number of blocks, is 1 to 65,535 and is told from the
+ * length of the links:
+ *
+ *    signatures   B * W words of 64 bits       block b's words at (b - 1) * W to b * W - 1
  *    links        5 + 2 * B words of 32 bits   F, B, root, first free node, count of filed blocks; then two words a block: next, filed
  *    nodes        B - 1 words of 64 bits       node i at index i - 1; any pointer will do where B - 1 is 0
  *
- * Clear them once, then lend the same three slices, with exactly these lengths, to every call. No caller needs to read them. Who does
- * finds a node in one word:
+ * Clear them once, then lend the same three slices, with exactly these lengths, to every call. A clear to another width is lent a
+ * signature slice of that width's B * W words, the same memory or other; where it is refused, the index goes on with the old one. No
+ * caller needs to read the tables. Who does finds a node in one word:
  *
  *     63                                34 33               17 16                0
  *    +------------------------------------+-------------------+-------------------+
@@ -23,12 +31,14 @@
  * The form of 5 * B + 2 links holds the same tables in two slices: there each node is three links after the rows of the blocks: its
  * position, its left, its right. Stores filled in that form are converted by sigtree_pack, and back by sigtree_unpack.
  *
- * Every call answers 0, or the number of the first question that says no:
+ * Every call answers 0, or the number of the first question that says no; it asks them in the order that stands beside it:
  *
- *    1  slip: it is not 16 bytes long
- *    2  slip: its kind is not 0 to 4
+ *    1  slip: it is empty, or not as long as its kind has it: 16 bytes for kind 0, 8 + 8 * W for kinds 1 to 4
+ *    2  slip: its kind, the first byte, is not 0 to 4
  *    3  slip: a field that its kind does not use is not 0
- *    4  the lengths, B, F or words 0 and 1 of the links do not fit; pack, unpack: or the lengths of the target
+ *    4  the lengths of the tables, B, F or words 0 and 1 of the links do not fit; F and W are those of word 0, for a clear those of its
+ *       own width, and words 0 and 1 are then not looked at; file, search: or the signature or query is not W words long; pack, unpack:
+ *       or the lengths of the target do not fit; sign: the width is not 1 to 512, or the signature is not W words long
  *    5  file, withdraw: the block is not 1 to B
  *    6  file, search: the signature or query is not below 2^F
  *    7  file: the block is filed
@@ -43,8 +53,8 @@
  * written over them), file, withdraw and search may also answer 11: file and withdraw have then changed nothing, search at most the
  * first B marks. No call ever reads or writes outside the lent slices, and every call ends, whatever the slices hold.
  *
- * Proved of the library, for every call and every list of calls: see docs/PROVED.md. For the caller to see to: each pointer is valid
- * for its length (any pointer will do for length 0), lent slices do not overlap, and the pointers to single numbers are not null.
+ * Proved of the library, for every width, every call and every list of calls: see docs/PROVED.md. For the caller to see to: each pointer
+ * is valid for its length (any pointer will do for length 0), lent slices do not overlap, and the pointers to single numbers are not null.
  *
  * The ceiling of a search, known before it: its compares are at most the number of distinct signatures filed, and at most 2^z, where z
  * is the number of positions 1 to F that the query does not set. Its bits read are at most F times its compares.
@@ -63,18 +73,23 @@
 extern "C" {
 #endif
 
-/* How many links and how many nodes B blocks have, and how many links in the form without nodes. */
+/* W, the words of a signature or query of a width; how many words the signature slice has; how many links and how many nodes B blocks
+ * have, and how many links in the form without nodes; how long a slip of kinds 1 to 4 is. */
+#define SIGTREE_WORDS(width) (((size_t)(width) + 63) / 64)
+#define SIGTREE_SIGNATURES(blocks, width) ((size_t)(blocks) * SIGTREE_WORDS(width))
 #define SIGTREE_LINKS(blocks) (5 + 2 * (size_t)(blocks))
 #define SIGTREE_NODES(blocks) ((size_t)(blocks) - 1)
 #define SIGTREE_OLD_LINKS(blocks) (5 * (size_t)(blocks) + 2)
+#define SIGTREE_SLIP(width) (8 + 8 * SIGTREE_WORDS(width))
 
-/* Empties the index and sets its width; the old words may be anything. Asks 4 (lengths, B and this width). */
+/* Empties the index and sets its width; the old words may be anything. The signature slice has B * W words, W of this width. Asks 4
+ * (lengths, B and this width). */
 uint32_t sigtree_clear(uint64_t *signatures, size_t signatures_length, uint32_t *links, size_t links_length, uint64_t *nodes,
                        size_t nodes_length, uint32_t width);
 
-/* Files a block with its signature. Asks 4, 5, 6, 7. */
+/* Files a block with its signature of W words. Asks 4, 5, 6, 7. */
 uint32_t sigtree_file(uint64_t *signatures, size_t signatures_length, uint32_t *links, size_t links_length, uint64_t *nodes,
-                      size_t nodes_length, uint32_t block, uint64_t signature);
+                      size_t nodes_length, uint32_t block, const uint64_t *signature, size_t signature_length);
 
 /* Takes a block out. Asks 4, 5, 8. */
 uint32_t sigtree_withdraw(uint64_t *signatures, size_t signatures_length, uint32_t *links, size_t links_length, uint64_t *nodes,
@@ -85,12 +100,13 @@ uint32_t sigtree_withdraw(uint64_t *signatures, size_t signatures_length, uint32
 uint32_t sigtree_rebuild(const uint64_t *signatures, size_t signatures_length, uint32_t *links, size_t links_length, uint64_t *nodes,
                          size_t nodes_length, uint32_t *scratch, size_t scratch_length);
 
-/* Lists the filed blocks whose signature covers the query: ascending, each once, at the front of the output; later words are unchanged.
- * The first B marks are 1 for each listed block and else 0; later marks are unchanged. Sets found (how many are listed), compares (how
- * many distinct signatures were compared) and bits_read (how many nodes were passed). Asks 4, 6, 9, 10. */
+/* Lists the filed blocks whose signature covers the query of W words: ascending, each once, at the front of the output; later words are
+ * unchanged. The first B marks are 1 for each listed block and else 0; later marks are unchanged. Sets found (how many are listed),
+ * compares (how many distinct signatures were compared) and bits_read (how many nodes were passed). Asks 4, 6, 9, 10. */
 uint32_t sigtree_search(const uint64_t *signatures, size_t signatures_length, const uint32_t *links, size_t links_length,
-                        const uint64_t *nodes, size_t nodes_length, uint64_t query, uint8_t *marks, size_t marks_length,
-                        uint32_t *output, size_t output_length, uint32_t *found, uint32_t *compares, uint32_t *bits_read);
+                        const uint64_t *nodes, size_t nodes_length, const uint64_t *query, size_t query_length, uint8_t *marks,
+                        size_t marks_length, uint32_t *output, size_t output_length, uint32_t *found, uint32_t *compares,
+                        uint32_t *bits_read);
 
 /* Says whether the tables are sound, and only reads them. Asks 4, 11. */
 uint32_t sigtree_audit(const uint64_t *signatures, size_t signatures_length, const uint32_t *links, size_t links_length,
@@ -107,18 +123,19 @@ uint32_t sigtree_pack(const uint64_t *signatures, size_t signatures_length, cons
 uint32_t sigtree_unpack(const uint64_t *signatures, size_t signatures_length, const uint32_t *links, size_t links_length,
                         const uint64_t *nodes, size_t nodes_length, uint32_t *old_links, size_t old_links_length);
 
-/* Carries out a slip of 16 bytes: kind (0 clear, 1 file, 2 withdraw, 3 rebuild, 4 search), three zero bytes, block (for a clear the
- * width) in 4 bytes, signature or query in 8 bytes, high byte first. Asks 1, 2, 3, then the call's own questions. The counts are those
- * of a search, and 0 for every other call and every refusal. */
+/* Carries out a slip: kind (0 clear, 1 file, 2 withdraw, 3 rebuild, 4 search), three zero bytes, block (for a clear the width) in 4
+ * bytes, then the signature or query, word after word in 8 bytes each, high byte first throughout. A slip of kind 0 is 16 bytes, with one
+ * word that is 0; the others are 8 + 8 * W, W of the index's width. An empty slip gets 1. Else it asks 2; then 1 and 3 for kind 0, or 4, 1
+ * and 3 for kinds 1 to 4; then the call's own questions. The counts are those of a search, and 0 for every other call and every refusal. */
 uint32_t sigtree_slip(const uint8_t *slip, size_t slip_length, uint64_t *signatures, size_t signatures_length, uint32_t *links,
                       size_t links_length, uint64_t *nodes, size_t nodes_length, uint32_t *scratch, size_t scratch_length,
                       uint8_t *marks, size_t marks_length, uint32_t *output, size_t output_length, uint32_t *found,
                       uint32_t *compares, uint32_t *bits_read);
 
-/* The signature of a text: words are the longest runs of bytes other than 32 and 10; each sets, for its overlapping runs of three bytes
- * a, b, c from left to right, the first k different positions 1 + ((961a + 31b + c) mod width). The text's signature is the OR over its
- * words. Sets the answer: 0, or 4 for the width, 12, 13; refused, the signature is 0. */
-uint64_t sigtree_sign(const uint8_t *text, size_t text_length, uint32_t width, uint32_t k, uint32_t *answer);
+/* Fills the W words of signature with the signature of a text: words of the text are the longest runs of bytes other than 32 and 10; each
+ * sets, for its overlapping runs of three bytes a, b, c from left to right, the first k different positions 1 + ((961a + 31b + c) mod
+ * width). The text's signature is the OR over its words. Asks 4 (this width, and W words), 12, 13; refused, the words are untouched. */
+uint32_t sigtree_sign(const uint8_t *text, size_t text_length, uint32_t width, uint32_t k, uint64_t *signature, size_t signature_length);
 
 /* Where word n of a text, counted from 1, stands: its first byte's index and its size in bytes; the text's length and 0 where there is
  * no such word or the text is refused. Answers 0 or 12. */

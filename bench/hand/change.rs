@@ -1,6 +1,6 @@
 //! Filing, withdrawing and rebuilding.
-use super::{is_set, joined, left, position, right, turned, REFERENCE, SIDE};
-use std::ptr::read_volatile;
+use super::words::{Many, Words};
+use super::{joined, left, position, right, REFERENCE, SIDE};
 
 /// The tables that a change writes, with no index checked.
 #[derive(Clone, Copy)]
@@ -9,6 +9,7 @@ struct Lent {
     links: *mut u32,
     nodes: *mut u64,
     blocks: usize,
+    words: usize,
 }
 
 /// Where a reference stands: in which node, 0 for the root's link, and on which side of it.
@@ -19,12 +20,12 @@ struct Place {
 }
 
 impl Lent {
-    fn of(signatures: &mut [u64], links: &mut [u32], nodes: &mut [u64]) -> Lent {
-        let blocks = signatures.len();
-        Lent { signatures: signatures.as_mut_ptr(), links: links.as_mut_ptr(), nodes: nodes.as_mut_ptr(), blocks }
+    fn of(signatures: &mut [u64], words: usize, links: &mut [u32], nodes: &mut [u64]) -> Lent {
+        let blocks = nodes.len() + 1;
+        Lent { signatures: signatures.as_mut_ptr(), links: links.as_mut_ptr(), nodes: nodes.as_mut_ptr(), blocks, words }
     }
-    unsafe fn signature<'a>(self, block: usize) -> &'a mut u64 {
-        &mut *self.signatures.add(block - 1)
+    unsafe fn signature<S: Words>(self, block: usize) -> S {
+        S::stored(self.signatures, self.words, block)
     }
     unsafe fn link<'a>(self, at: usize) -> &'a mut u32 {
         &mut *self.links.add(at)
@@ -35,19 +36,19 @@ impl Lent {
     unsafe fn node<'a>(self, node: usize) -> &'a mut u64 {
         &mut *self.nodes.add(node - 1)
     }
-    unsafe fn bit(self, s: u64, position: u32) -> u32 {
-        (s >> (*self.link(0) - position)) as u32 & 1
+    unsafe fn width(self) -> u32 {
+        *self.link(0)
     }
 
     /// The reference that the walk by s reaches, where it stands, and where its parent's reference stands.
-    unsafe fn reached(self, s: u64) -> (usize, Place, Place) {
-        let s = turned(s, *self.link(0));
+    unsafe fn reached<S: Words>(self, s: S) -> (usize, Place, Place) {
+        let path = s.path(self.width());
         let root = Place { node: 0, on_right: false };
         let (mut reference, mut at, mut above) = (*self.link(2) as usize, root, root);
         while reference > self.blocks {
             let node = reference - self.blocks;
             let word = *self.node(node);
-            let on_right = is_set(s, position(word));
+            let on_right = S::goes_right(path, position(word));
             (above, at) = (at, Place { node, on_right });
             reference = if on_right { right(word) } else { left(word) };
         }
@@ -64,12 +65,12 @@ impl Lent {
     }
 
     /// A new node at a place, over the leaf that stood there and a block.
-    unsafe fn split(self, at: Place, leaf: usize, block: usize, s: u64) {
-        let position = (s ^ *self.signature(leaf)).leading_zeros() + *self.link(0) - 63;
+    unsafe fn split<S: Words>(self, at: Place, leaf: usize, block: usize, s: S) {
+        let position = s.first_difference(self.signature(leaf), self.width());
         let free = *self.link(3) as usize;
         let node = self.node(free);
         *self.link(3) = left(*node) as u32;
-        *node = if self.bit(s, position) == 1 { joined(position, leaf, block) } else { joined(position, block, leaf) };
+        *node = if s.bit(self.width(), position) == 1 { joined(position, leaf, block) } else { joined(position, block, leaf) };
         self.put(at, self.blocks + free);
     }
 
@@ -82,18 +83,16 @@ impl Lent {
     }
 }
 
-/// # Safety
-/// The tables are sound and the block is unfiled.
-#[inline(never)]
-pub unsafe fn file(signatures: &mut [u64], links: &mut [u32], nodes: &mut [u64], block: u32, s: u64) {
-    let (lent, b) = (Lent::of(signatures, links, nodes), block as usize);
+#[inline(always)]
+unsafe fn file_in<S: Words>(lent: Lent, block: u32, s: S) {
+    let b = block as usize;
     let (leaf, at, _) = lent.reached(s);
-    *lent.signature(b) = s;
+    s.store(lent.signatures, b);
     *lent.link(2 * b + 4) = 1;
     *lent.link(4) += 1;
     if leaf == 0 {
         *lent.link(2) = block;
-    } else if *lent.signature(leaf) == s {
+    } else if lent.signature::<S>(leaf).is(s) {
         *lent.next(b) = *lent.next(leaf);
         *lent.next(leaf) = block;
     } else {
@@ -101,12 +100,11 @@ pub unsafe fn file(signatures: &mut [u64], links: &mut [u32], nodes: &mut [u64],
     }
 }
 
-/// # Safety
-/// The tables are sound and the block is filed.
-#[inline(never)]
-pub unsafe fn withdraw(signatures: &mut [u64], links: &mut [u32], nodes: &mut [u64], block: u32) {
-    let (lent, b) = (Lent::of(signatures, links, nodes), block as usize);
-    let (head, at, above) = lent.reached(*lent.signature(b));
+#[inline(always)]
+unsafe fn withdraw_in<S: Words>(lent: Lent, block: u32) {
+    let b = block as usize;
+    let signature: S = lent.signature(b);
+    let (head, at, above) = lent.reached(signature);
     let next = *lent.next(b);
     if head != b {
         let mut before = head;
@@ -122,7 +120,7 @@ pub unsafe fn withdraw(signatures: &mut [u64], links: &mut [u32], nodes: &mut [u
     *lent.next(b) = 0;
     *lent.link(2 * b + 4) = 0;
     *lent.link(4) -= 1;
-    *lent.signature(b) = 0;
+    signature.clear(lent.signatures, b);
 }
 
 /// Gathers the heads below a reference after those that are gathered. The result is how many are gathered then.
@@ -139,10 +137,10 @@ unsafe fn heads(lent: Lent, reference: usize, scratch: &mut [u32], gathered: usi
 /// The position where the smaller side of a group is largest, the lowest of those: position by position, as the library goes. A signature
 /// is read as volatile so that no vector gathers it, which as `hand_native` takes a quarter longer at B 1,024 and a tenth at 65,535; there
 /// all positions in one pass over the group, by vectors of 64 counts, would make the rebuild 1.9 and 2.7 times as fast.
-unsafe fn best_position(lent: Lent, group: &[u32]) -> u32 {
+unsafe fn best_position<S: Words>(lent: Lent, group: &[u32]) -> u32 {
     let (mut best, mut size) = (1, 0);
-    for position in 1..=*lent.link(0) {
-        let bit = |&b: &u32| lent.bit(read_volatile(lent.signature(b as usize)), position) as usize;
+    for position in 1..=lent.width() {
+        let bit = |&b: &u32| S::read_bit(lent.signatures, lent.words, b as usize, lent.width(), position) as usize;
         let ones: usize = group.iter().map(bit).sum();
         let smaller = ones.min(group.len() - ones);
         if smaller > size {
@@ -153,14 +151,14 @@ unsafe fn best_position(lent: Lent, group: &[u32]) -> u32 {
 }
 
 /// Writes a group's tree from a node on. The result is the reference to it.
-unsafe fn place(lent: Lent, group: &mut [u32], node: usize) -> usize {
+unsafe fn place<S: Words>(lent: Lent, group: &mut [u32], node: usize) -> usize {
     if group.len() == 1 {
         return group[0] as usize;
     }
-    let position = best_position(lent, group);
+    let position = best_position::<S>(lent, group);
     let (mut i, mut k) = (0, group.len());
     while i < k {
-        if lent.bit(*lent.signature(*group.get_unchecked(i) as usize), position) == 0 {
+        if lent.signature::<S>(*group.get_unchecked(i) as usize).bit(lent.width(), position) == 0 {
             i += 1;
         } else {
             k -= 1;
@@ -168,25 +166,68 @@ unsafe fn place(lent: Lent, group: &mut [u32], node: usize) -> usize {
         }
     }
     let (zeros, ones) = group.split_at_mut_unchecked(k);
-    let left = place(lent, zeros, node + 1);
-    let right = place(lent, ones, node + k);
+    let left = place::<S>(lent, zeros, node + 1);
+    let right = place::<S>(lent, ones, node + k);
     *lent.node(node) = joined(position, left, right);
     lent.blocks + node
 }
 
-/// # Safety
-/// The tables are sound, and the scratch at least as long as the signatures.
-#[inline(never)]
-pub unsafe fn rebuild(signatures: &mut [u64], links: &mut [u32], nodes: &mut [u64], scratch: &mut [u32]) {
-    let lent = Lent::of(signatures, links, nodes);
+#[inline(always)]
+unsafe fn rebuild_in<S: Words>(lent: Lent, scratch: &mut [u32]) {
     let mut first = 1;
     if *lent.link(2) != 0 {
         first = heads(lent, *lent.link(2) as usize, scratch, 0);
-        *lent.link(2) = place(lent, &mut scratch[..first], 1) as u32;
+        *lent.link(2) = place::<S>(lent, &mut scratch[..first], 1) as u32;
     }
     let after = |node: usize| if node < lent.blocks { node } else { 0 };
     *lent.link(3) = after(first) as u32;
     for node in first..lent.blocks {
         *lent.node(node) = joined(0, after(node + 1), 0);
     }
+}
+
+/// # Safety
+/// The tables are sound and the block is unfiled.
+#[inline(never)]
+pub unsafe fn file(signatures: &mut [u64], links: &mut [u32], nodes: &mut [u64], block: u32, s: u64) {
+    file_in(Lent::of(signatures, 1, links, nodes), block, s);
+}
+
+/// # Safety
+/// The tables are sound and the block is filed.
+#[inline(never)]
+pub unsafe fn withdraw(signatures: &mut [u64], links: &mut [u32], nodes: &mut [u64], block: u32) {
+    withdraw_in::<u64>(Lent::of(signatures, 1, links, nodes), block);
+}
+
+/// # Safety
+/// The tables are sound, and the scratch has a word for each block.
+#[inline(never)]
+pub unsafe fn rebuild(signatures: &mut [u64], links: &mut [u32], nodes: &mut [u64], scratch: &mut [u32]) {
+    rebuild_in::<u64>(Lent::of(signatures, 1, links, nodes), scratch);
+}
+
+fn words_of(links: &[u32]) -> usize {
+    links[0].div_ceil(64) as usize
+}
+
+/// # Safety
+/// As for `file`. The signature has the words of the tables' width.
+#[inline(never)]
+pub unsafe fn wide_file(signatures: &mut [u64], links: &mut [u32], nodes: &mut [u64], block: u32, s: &[u64]) {
+    file_in(Lent::of(signatures, s.len(), links, nodes), block, Many::of(s));
+}
+
+/// # Safety
+/// As for `withdraw`.
+#[inline(never)]
+pub unsafe fn wide_withdraw(signatures: &mut [u64], links: &mut [u32], nodes: &mut [u64], block: u32) {
+    withdraw_in::<Many>(Lent::of(signatures, words_of(links), links, nodes), block);
+}
+
+/// # Safety
+/// As for `rebuild`.
+#[inline(never)]
+pub unsafe fn wide_rebuild(signatures: &mut [u64], links: &mut [u32], nodes: &mut [u64], scratch: &mut [u32]) {
+    rebuild_in::<Many>(Lent::of(signatures, words_of(links), links, nodes), scratch);
 }

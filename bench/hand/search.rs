@@ -1,5 +1,6 @@
 //! The searches.
-use super::{is_set, left, position, right, turned, Counts, Tables};
+use super::words::{Many, Words};
+use super::{left, position, right, Counts, Tables};
 use std::mem::MaybeUninit;
 use std::ops::Range;
 
@@ -9,6 +10,26 @@ pub fn scan(tables: Tables, query: u64, marks: &mut [u8], output: &mut [u32]) ->
     let mut found = 0;
     for (b, &s) in tables.signatures.iter().enumerate() {
         let hit = (s & query == query) & (tables.links[2 * b + 6] != 0);
+        marks[b] = hit as u8;
+        output[found] = b as u32 + 1;
+        found += hit as usize;
+    }
+    found as u32
+}
+
+/// The same of signatures of W words. Where the high one passes it reads all others at once: word by word it is a third slower.
+#[inline(never)]
+pub fn wide_scan(tables: Tables, query: &[u64], marks: &mut [u8], output: &mut [u32]) -> u32 {
+    let mut found = 0;
+    for (b, s) in tables.signatures.chunks_exact(query.len()).enumerate() {
+        let mut missing = query[0] & !s[0];
+        if missing == 0 && query.len() > 1 {
+            for i in 1..query.len() {
+                // SAFETY: each signature has as many words as the query.
+                missing |= unsafe { query.get_unchecked(i) & !s.get_unchecked(i) };
+            }
+        }
+        let hit = (missing == 0) & (tables.links[2 * b + 6] != 0);
         marks[b] = hit as u8;
         output[found] = b as u32 + 1;
         found += hit as usize;
@@ -56,7 +77,7 @@ struct OneWord(*const u64);
 
 impl OneWord {
     fn of(tables: Tables) -> OneWord {
-        OneWord(tables.nodes.as_ptr().wrapping_sub(tables.signatures.len() + 1))
+        OneWord(tables.nodes.as_ptr().wrapping_sub(tables.blocks() + 1))
     }
 }
 
@@ -88,7 +109,7 @@ struct ThreeWords(*const [u32; 3]);
 
 impl ThreeWords {
     fn of(tables: Tables) -> ThreeWords {
-        let blocks = tables.signatures.len();
+        let blocks = tables.blocks();
         ThreeWords(tables.links[2 * blocks + 5..].as_ptr().cast::<[u32; 3]>().wrapping_sub(blocks + 1))
     }
 }
@@ -115,23 +136,41 @@ impl Form for ThreeWords {
 }
 
 /// What a walk reads and marks at its leaves, and what it counts.
-struct Walk {
+struct Walk<S> {
     signatures: *const u64,
     links: *const u32,
     marks: *mut u8,
     blocks: usize,
     width: u32,
-    query: u64,
+    query: S,
     counts: Counts,
 }
 
-impl Walk {
+impl<S: Words> Walk<S> {
     #[inline(always)]
     unsafe fn covers(&self, head: usize) -> bool {
-        self.query & !*self.signatures.add(head - 1) == 0
+        self.query.is_covered(S::stored(self.signatures, self.query.words(), head))
     }
 
-    /// Marks a chain. The result is how many blocks it has.
+    /// Marks a chain whose head covers. The result is how many blocks it has.
+    #[inline(always)]
+    unsafe fn mark_chain(&self, head: usize) -> u32 {
+        if !S::FEW_REGISTERS {
+            return self.mark(head);
+        }
+        *self.marks.add(head - 1) = 1;
+        match *self.links.add(2 * head + 3) as usize {
+            0 => 1,
+            next => 1 + self.mark_rest(next),
+        }
+    }
+
+    #[inline(never)]
+    unsafe fn mark_rest(&self, block: usize) -> u32 {
+        self.mark(block)
+    }
+
+    /// Marks a chain from a block on.
     #[inline(always)]
     unsafe fn mark(&self, head: usize) -> u32 {
         let (mut b, mut marked) = (head, 0);
@@ -159,7 +198,7 @@ impl Walk {
         }
         self.counts.bits += 1;
         let node = nodes.node(reference);
-        if (self.query >> (self.width - position(node))) & 1 == 0 {
+        if self.query.bit(self.width, position(node)) == 0 {
             self.visit(nodes, left(node));
         }
         self.visit(nodes, right(node))
@@ -180,8 +219,8 @@ impl Tally {
     }
 
     #[inline(always)]
-    unsafe fn leaf(self, walk: &Walk, head: usize) -> Tally {
-        let marked = if walk.covers(head) { walk.mark(head) } else { 0 };
+    unsafe fn leaf<S: Words>(self, walk: &Walk<S>, head: usize) -> Tally {
+        let marked = if walk.covers(head) { walk.mark_chain(head) } else { 0 };
         Tally(self.0 + Tally::COMPARE + marked as u64)
     }
 }
@@ -194,11 +233,13 @@ impl Tally {
 /// in memory 1.03 and 1.01; all behind one pointer 1.06 and 1.04, then left before right 1.07 and 1.05, then nothing read ahead 1.14 and
 /// 1.15; `plain` 1.29 and 1.20. By other steps: heads gathered as `looped` does 0.92 and 1.00; `looped` 0.78 and 0.93, with nothing
 /// gathered 0.93 and 0.98.
-unsafe fn sides<F: Form>(walk: &Walk, query: u64, blocks: usize, nodes: F, mut node: F::Node, mut tally: Tally) -> Tally {
+unsafe fn sides<F: Form, S: Words>(
+    walk: &Walk<S>, query: S::Turned, blocks: usize, nodes: F, mut node: F::Node, mut tally: Tally,
+) -> Tally {
     loop {
         tally.0 += Tally::BIT;
         let right = F::right(node);
-        if !is_set(query, F::position(node)) {
+        if !S::is_set(query, F::position(node)) {
             let left = F::left(node);
             if left <= blocks {
                 tally = tally.leaf(walk, left);
@@ -220,8 +261,10 @@ unsafe fn sides<F: Form>(walk: &Walk, query: u64, blocks: usize, nodes: F, mut n
     }
 }
 
-unsafe fn by_calls<F: Form>(walk: &mut Walk, nodes: F, root: usize) {
-    walk.counts = sides(walk, turned(walk.query, walk.width), walk.blocks, nodes, nodes.node(root), Tally(0)).counts();
+unsafe fn by_calls<F: Form, S: Words>(walk: &mut Walk<S>, nodes: F, root: usize) {
+    let mut room = [0; 9];
+    let query = walk.query.turned(walk.width, &mut room);
+    walk.counts = sides(walk, query, walk.blocks, nodes, nodes.node(root), Tally(0)).counts();
 }
 
 /// Heads that cover the query, gathered so that no branch hangs on what a compare says, which no processor foresees.
@@ -232,7 +275,7 @@ impl Gathered {
 
     /// Compares a head and holds it where it covers. The result is how many are held.
     #[inline(always)]
-    unsafe fn compare(&mut self, walk: &mut Walk, head: usize, held: usize) -> usize {
+    unsafe fn compare(&mut self, walk: &mut Walk<u64>, head: usize, held: usize) -> usize {
         self.0.get_unchecked_mut(held).write(head as u32);
         match held + walk.covers(head) as usize {
             Self::ROOM => self.mark(walk, Self::ROOM),
@@ -242,7 +285,7 @@ impl Gathered {
 
     /// Marks the chains of the heads that are held. None are held then.
     #[inline(never)]
-    unsafe fn mark(&mut self, walk: &mut Walk, held: usize) -> usize {
+    unsafe fn mark(&mut self, walk: &mut Walk<u64>, held: usize) -> usize {
         for head in self.0.get_unchecked(..held) {
             walk.counts.found += walk.mark(head.assume_init() as usize);
         }
@@ -253,8 +296,8 @@ impl Gathered {
 /// The same tree in a loop. Right nodes wait on a stack of its own: at most one for each of 64 positions. Compares are not counted: every
 /// node whose bit is 0 has two sides, so the leaves are one more than those. With no branch on the query's bit and on leaf or node either
 /// it was slower as `hand_native`: 16 nodes at a time 1.4 at B 1,024 and 0.9 at 65,535, one at a time 2.3 and 1.4.
-unsafe fn by_loop(walk: &mut Walk, nodes: OneWord, root: usize) {
-    let (query, blocks) = (turned(walk.query, walk.width), walk.blocks);
+unsafe fn by_loop(walk: &mut Walk<u64>, nodes: OneWord, root: usize) {
+    let (query, blocks) = (walk.query.turned(walk.width, &mut [0; 9]), walk.blocks);
     let mut gathered = Gathered([MaybeUninit::uninit(); Gathered::ROOM]);
     let mut waiting = [MaybeUninit::<u64>::uninit(); 64];
     let (mut waits, mut held, mut bits, mut ones) = (0, 0, 0, 0);
@@ -262,7 +305,7 @@ unsafe fn by_loop(walk: &mut Walk, nodes: OneWord, root: usize) {
     loop {
         bits += 1;
         let (left, right) = (left(node), right(node));
-        if is_set(query, position(node)) {
+        if u64::is_set(query, position(node)) {
             ones += 1;
         } else if left <= blocks {
             held = gathered.compare(walk, left, held);
@@ -293,8 +336,10 @@ unsafe fn by_loop(walk: &mut Walk, nodes: OneWord, root: usize) {
 
 /// Clears the marks, walks from the root, by `from` where it is a node, and lists what is marked.
 #[inline(always)]
-unsafe fn search(tables: Tables, query: u64, marks: &mut [u8], output: &mut [u32], from: impl FnOnce(&mut Walk, usize)) -> Counts {
-    let blocks = tables.signatures.len();
+unsafe fn search<S: Words>(
+    tables: Tables, query: S, marks: &mut [u8], output: &mut [u32], from: impl FnOnce(&mut Walk<S>, usize),
+) -> Counts {
+    let blocks = tables.blocks();
     marks[..blocks].fill(0);
     let mut walk = Walk {
         signatures: tables.signatures.as_ptr(),
@@ -340,4 +385,18 @@ pub unsafe fn three_words(tables: Tables, query: u64, marks: &mut [u8], output: 
 #[inline(never)]
 pub unsafe fn looped(tables: Tables, query: u64, marks: &mut [u8], output: &mut [u32]) -> Counts {
     search(tables, query, marks, output, |walk, root| by_loop(walk, OneWord::of(tables), root))
+}
+
+/// # Safety
+/// As for `plain`. The query has the words of the tables' width.
+#[inline(never)]
+pub unsafe fn wide_plain(tables: Tables, query: &[u64], marks: &mut [u8], output: &mut [u32]) -> Counts {
+    search(tables, Many::of(query), marks, output, |walk, root| walk.visit(OneWord::of(tables), root))
+}
+
+/// # Safety
+/// As for `wide_plain`.
+#[inline(never)]
+pub unsafe fn wide_fastest(tables: Tables, query: &[u64], marks: &mut [u8], output: &mut [u32]) -> Counts {
+    search(tables, Many::of(query), marks, output, |walk, root| by_calls(walk, OneWord::of(tables), root))
 }

@@ -32,6 +32,9 @@ pub struct Lent {
     scratch: Guarded<u32>,
     marks: Guarded<u8>,
     output: Guarded<u32>,
+    /// the words of a direct call's signature or query
+    field: Guarded<u64>,
+    slip: Guarded<u8>,
     null: bool,
 }
 
@@ -42,19 +45,31 @@ impl Lent {
     pub fn new(p: &Packed, r: &Request, rng: &mut Rng) -> Lent {
         let mut words = |n: usize| (0..n).map(|_| rng.next() as u32).collect::<Vec<u32>>();
         let marks: Vec<u8> = words(r.marks).iter().map(|w| *w as u8).collect();
-        Lent {
+        let mut lent = Lent {
             signatures: Guarded::new(&p.signatures, 0x5a5a_5a5a_5a5a_5a5a),
             links: Guarded::new(&p.links, 0xa5a5_a5a5),
             nodes: Guarded::new(&p.nodes, 0x6969_6969_6969_6969),
             scratch: Guarded::new(&words(r.scratch), 0xc3c3_c3c3),
             marks: Guarded::new(&marks, 0x3c),
             output: Guarded::new(&words(r.output), 0x9696_9696),
+            field: Guarded::new(&[], 0x0f0f_0f0f_0f0f_0f0f),
+            slip: Guarded::new(&[], 0xf0),
             null: r.null,
+        };
+        lent.hand(&r.call);
+        lent
+    }
+    /// Lends what the call itself brings: its words or its bytes.
+    fn hand(&mut self, call: &Call) {
+        match call {
+            Call::File(_, words) | Call::Search(words) => self.field.fill(words),
+            Call::Slip(bytes) => self.slip.fill(bytes),
+            _ => {}
         }
     }
     pub fn guards(&self) -> Result<(), String> {
         let tables = self.signatures.kept() && self.links.kept() && self.nodes.kept();
-        let kept = tables && self.scratch.kept() && self.marks.kept() && self.output.kept();
+        let kept = tables && self.scratch.kept() && self.marks.kept() && self.output.kept() && self.field.kept() && self.slip.kept();
         if kept { Ok(()) } else { Err("a guard word has changed".into()) }
     }
     pub fn tables(&self) -> Packed {
@@ -85,52 +100,51 @@ impl Lent {
     }
 
     pub fn run(&mut self, call: &Call) -> Report {
+        self.hand(call);
         match call {
             Call::Clear(width) => Report::bare(self.clear(*width)),
-            Call::File(b, s) => Report::bare(self.file(*b, *s)),
+            Call::File(b, _) => Report::bare(self.file(*b)),
             Call::Withdraw(b) => Report::bare(self.withdraw(*b)),
             Call::Rebuild => Report::bare(self.rebuild()),
-            Call::Search(q) => self.search(*q),
+            Call::Search(_) => self.search(),
             Call::Audit => Report::bare(self.audit()),
-            Call::Slip(bytes) => self.slip(bytes),
+            Call::Slip(_) => self.slip(),
         }
     }
     fn lend(&mut self) -> Slices {
         let ((s, n), (l, m), (d, e)) = (self.signatures.lend(self.null), self.links.lend(self.null), self.nodes.lend(self.null));
         (s, n, l, m, d, e)
     }
-    pub fn clear(&mut self, width: u32) -> u32 {
+    fn clear(&mut self, width: u32) -> u32 {
         let (s, n, l, m, d, e) = self.lend();
         unsafe { sigtree_clear(s, n, l, m, d, e, width) }
     }
-    pub fn file(&mut self, block: u32, signature: u64) -> u32 {
-        let (s, n, l, m, d, e) = self.lend();
-        unsafe { sigtree_file(s, n, l, m, d, e, block, signature) }
+    fn file(&mut self, block: u32) -> u32 {
+        let ((s, n, l, m, d, e), (q, w)) = (self.lend(), self.field.lend(self.null));
+        unsafe { sigtree_file(s, n, l, m, d, e, block, q, w) }
     }
-    pub fn withdraw(&mut self, block: u32) -> u32 {
+    fn withdraw(&mut self, block: u32) -> u32 {
         let (s, n, l, m, d, e) = self.lend();
         unsafe { sigtree_withdraw(s, n, l, m, d, e, block) }
     }
-    pub fn rebuild(&mut self) -> u32 {
-        let (s, n, l, m, d, e) = self.lend();
-        let (c, k) = self.scratch.lend(self.null);
+    fn rebuild(&mut self) -> u32 {
+        let ((s, n, l, m, d, e), (c, k)) = (self.lend(), self.scratch.lend(self.null));
         unsafe { sigtree_rebuild(s, n, l, m, d, e, c, k) }
     }
-    pub fn audit(&mut self) -> u32 {
+    fn audit(&mut self) -> u32 {
         let (s, n, l, m, d, e) = self.lend();
         unsafe { sigtree_audit(s, n, l, m, d, e) }
     }
-    pub fn search(&mut self, query: u64) -> Report {
-        let (s, n, l, m, d, e) = self.lend();
+    fn search(&mut self) -> Report {
+        let ((s, n, l, m, d, e), (q, w)) = (self.lend(), self.field.lend(self.null));
         let ((k, j), (o, i)) = (self.marks.lend(self.null), self.output.lend(self.null));
         let mut r = Report::unset();
-        r.answer = unsafe { sigtree_search(s, n, l, m, d, e, query, k, j, o, i, &mut r.found, &mut r.compares, &mut r.bits) };
+        r.answer = unsafe { sigtree_search(s, n, l, m, d, e, q, w, k, j, o, i, &mut r.found, &mut r.compares, &mut r.bits) };
         r
     }
-    pub fn slip(&mut self, bytes: &[u8]) -> Report {
-        let (s, n, l, m, d, e) = self.lend();
+    fn slip(&mut self) -> Report {
+        let ((s, n, l, m, d, e), (slip, length)) = (self.lend(), self.slip.lend(self.null));
         let ((c, h), (k, j), (o, i)) = (self.scratch.lend(self.null), self.marks.lend(self.null), self.output.lend(self.null));
-        let (slip, length) = (bytes.as_ptr(), bytes.len());
         let mut r = Report::unset();
         r.answer = unsafe {
             sigtree_slip(slip, length, s, n, l, m, d, e, c, h, k, j, o, i, &mut r.found, &mut r.compares, &mut r.bits)

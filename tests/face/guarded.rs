@@ -18,10 +18,16 @@ impl<T: Copy + PartialEq + Debug> Debug for Guarded<T> {
 
 impl<T: Copy + PartialEq> Guarded<T> {
     pub fn new(data: &[T], guard: T) -> Guarded<T> {
-        let mut words = vec![guard; GUARD];
-        words.extend(data);
-        words.extend([guard; GUARD]);
-        Guarded { words, guard }
+        let mut guarded = Guarded { words: Vec::with_capacity(data.len() + 2 * GUARD), guard };
+        guarded.fill(data);
+        guarded
+    }
+    /// Puts other data between the guard words.
+    pub fn fill(&mut self, data: &[T]) {
+        self.words.clear();
+        self.words.extend([self.guard; GUARD]);
+        self.words.extend(data);
+        self.words.extend([self.guard; GUARD]);
     }
     pub fn data(&self) -> &[T] {
         &self.words[GUARD..self.words.len() - GUARD]

@@ -1,9 +1,10 @@
 //! The largest store: 65,535 blocks with different signatures, so that every node is in the tree and references go up to 131,069.
-use crate::convert::{check, lengths, Forms, Way};
-use crate::face::Lent;
+use crate::convert::{check, lengths, Forms, Old, Way};
+use crate::face::{Lent, Report};
 use crate::guarded::same;
+use crate::number::{word_count, Number};
 use crate::packed::{parts, word, Packed};
-use crate::reference::{Tables, MOST_BLOCKS};
+use crate::reference::{links_of, Tables, MOST_BLOCKS};
 use crate::request::{plain_request, Call};
 use crate::rng::Rng;
 use crate::step::step;
@@ -12,30 +13,34 @@ use crate::step::step;
 struct Both {
     lent: Lent,
     tables: Tables,
+    words: usize,
     calls: usize,
 }
 
 impl Both {
     fn cleared(width: u32, rng: &mut Rng) -> Both {
-        let blank = Packed::blank(MOST_BLOCKS);
-        let mut lent = Lent::new(&blank, &plain_request(Call::Audit, MOST_BLOCKS), rng);
-        assert_eq!(lent.clear(width), 0);
-        Both { lent, tables: Tables::cleared(MOST_BLOCKS, width), calls: 1 }
+        let words = word_count(width);
+        let blank = Packed::blank(MOST_BLOCKS, vec![0; MOST_BLOCKS * words]);
+        let lent = Lent::new(&blank, &plain_request(Call::Audit, MOST_BLOCKS, words), rng);
+        let mut both = Both { lent, tables: Tables::cleared(MOST_BLOCKS, width), words, calls: 0 };
+        both.accepted(Call::Clear(width));
+        both
     }
-    fn file(&mut self, block: usize, signature: u64) {
-        assert_eq!(self.lent.file(block as u32, signature), 0);
-        self.tables.file(block, signature);
+    fn accepted(&mut self, call: Call) {
+        assert_eq!(self.lent.run(&call), Report::bare(0));
         self.calls += 1;
+    }
+    fn file(&mut self, block: usize, signature: Number) {
+        self.accepted(Call::File(block as u32, signature.words(self.words)));
+        self.tables.file(block, signature);
     }
     fn withdraw(&mut self, block: usize) {
-        assert_eq!(self.lent.withdraw(block as u32), 0);
+        self.accepted(Call::Withdraw(block as u32));
         self.tables.withdraw(block);
-        self.calls += 1;
     }
     fn rebuild(&mut self) {
-        assert_eq!(self.lent.rebuild(), 0);
+        self.accepted(Call::Rebuild);
         self.tables.rebuild();
-        self.calls += 1;
     }
     /// The words are the same; an audit, searches of few and of many bits, and both conversions are as the request says.
     fn agree(&mut self, rng: &mut Rng) -> Result<(), String> {
@@ -44,13 +49,15 @@ impl Both {
         if self.lent.tables() != p {
             return Err("the tables differ".into());
         }
-        let of = p.signatures[rng.below(MOST_BLOCKS as u64) as usize];
-        let queries = [0, of & rng.next() & rng.next() & rng.next(), of & rng.next(), of];
-        for call in queries.map(Call::Search).into_iter().chain([Call::Audit]) {
-            step(&mut p, &plain_request(call, MOST_BLOCKS), rng)?;
+        let of = self.tables.signatures[rng.below(MOST_BLOCKS as u64) as usize];
+        let some = of & Number::random(rng);
+        let queries = [Number::default(), some & Number::random(rng) & Number::random(rng), some, of];
+        for call in queries.map(|q| Call::Search(q.words(self.words))).into_iter().chain([Call::Audit]) {
+            step(&mut p, &plain_request(call, MOST_BLOCKS, self.words), rng)?;
         }
         for way in [Way::Pack, Way::Unpack] {
-            same("conversion", &check(way, &Forms::new(way, &p, &self.tables, lengths(MOST_BLOCKS), rng))?, &0)?;
+            let lent = Forms::new(way, &p, &Old::of(&self.tables), lengths(MOST_BLOCKS, self.words), rng);
+            same("conversion", &check(way, &lent)?, &0)?;
         }
         self.calls += queries.len() + 3;
         Ok(())
@@ -72,17 +79,19 @@ fn largest_reference(p: &Packed) -> (usize, usize, u32) {
 fn corrupted(p: &Packed, rng: &mut Rng) -> Result<usize, String> {
     let (at, side, top) = largest_reference(p);
     same("largest reference", &top, &131_069)?;
-    let mut calls = 0;
-    for (part, value) in [(side, 131_070), (side, 131_071), (side, top - 65_536), (side, 0), (0, 65), (0, (1 << 30) - 1)] {
+    let (words, mut calls) = (p.words(), 0);
+    let wide = p.links[0] + 1;
+    for (part, value) in [(side, 131_070), (side, 131_071), (side, top - 65_536), (side, 0), (0, wide), (0, (1 << 30) - 1)] {
         let mut changed = parts(p.nodes[at]);
         changed[part] = value;
         let mut bad = p.clone();
         bad.nodes[at] = word(changed);
         let withdrawn = 1 + rng.below(MOST_BLOCKS as u64) as u32;
-        for call in [Call::Audit, Call::Rebuild, Call::Search(0), Call::Withdraw(withdrawn)] {
-            step(&mut bad.clone(), &plain_request(call, MOST_BLOCKS), rng)?;
+        for call in [Call::Audit, Call::Rebuild, Call::Search(vec![0; words]), Call::Withdraw(withdrawn)] {
+            step(&mut bad.clone(), &plain_request(call, MOST_BLOCKS, words), rng)?;
         }
-        let lent = Forms::new(Way::Unpack, &bad, &bad.open(), lengths(MOST_BLOCKS), rng);
+        let old = Old { signatures: vec![], links: vec![] };
+        let lent = Forms::new(Way::Unpack, &bad, &old, lengths(MOST_BLOCKS, words), rng);
         same("conversion", &check(Way::Unpack, &lent)?, &11)?;
         calls += 5;
     }
@@ -90,7 +99,7 @@ fn corrupted(p: &Packed, rng: &mut Rng) -> Result<usize, String> {
 }
 
 /// Fills the store, rebuilds it, withdraws half of it, files that half again, and withdraws all.
-fn fill_and_empty(width: u32, signatures: &[u64], rng: &mut Rng) -> Result<usize, String> {
+fn fill_and_empty(width: u32, signatures: &[Number], rng: &mut Rng) -> Result<usize, String> {
     let mut both = Both::cleared(width, rng);
     for (b, s) in shuffled(rng).into_iter().zip(signatures) {
         both.file(b, *s);
@@ -113,24 +122,26 @@ fn fill_and_empty(width: u32, signatures: &[u64], rng: &mut Rng) -> Result<usize
 /// One block more: lengths that fit each other and no tables.
 fn too_many(rng: &mut Rng) -> Result<usize, String> {
     let blocks = MOST_BLOCKS + 1;
-    let mut p = Packed::blank(blocks);
+    let (mut p, words) = (Packed::blank(blocks, vec![0; blocks]), 1);
     (p.links[0], p.links[1]) = (64, blocks as u32);
-    let calls = [Call::Clear(64), Call::File(1, 1), Call::Withdraw(1), Call::Rebuild, Call::Search(0), Call::Audit];
+    let calls = [Call::Clear(64), Call::File(1, vec![1]), Call::Withdraw(1), Call::Rebuild, Call::Search(vec![0]), Call::Audit];
     let made = calls.len() + 2;
     for call in calls {
-        step(&mut p, &plain_request(call, blocks), rng)?;
+        step(&mut p, &plain_request(call, blocks, words), rng)?;
     }
+    let mut old = Old { signatures: vec![0; blocks], links: vec![0; links_of(blocks)] };
+    (old.links[0], old.links[1]) = (64, blocks as u32);
     for way in [Way::Pack, Way::Unpack] {
-        same("conversion", &check(way, &Forms::new(way, &p, &p.open(), lengths(blocks), rng))?, &4)?;
+        same("conversion", &check(way, &Forms::new(way, &p, &old, lengths(blocks, words), rng))?, &4)?;
     }
     Ok(made)
 }
 
-/// How many calls were made: signatures of 64 random bits, then all of 16 bits but one.
+/// How many calls were made: signatures of 512 random bits, then all of 16 bits but one.
 pub fn largest(rng: &mut Rng) -> usize {
-    let wide: Vec<u64> = (0..MOST_BLOCKS).map(|_| rng.next()).collect();
-    let dense: Vec<u64> = shuffled(rng).iter().map(|&s| s as u64).collect();
-    let made = fill_and_empty(64, &wide, rng)
+    let wide: Vec<Number> = (0..MOST_BLOCKS).map(|_| Number::random(rng).low(512)).collect();
+    let dense: Vec<Number> = shuffled(rng).iter().map(|&s| Number::read(&[s as u64])).collect();
+    let made = fill_and_empty(512, &wide, rng)
         .and_then(|n| Ok(n + fill_and_empty(16, &dense, rng)?))
         .and_then(|n| Ok(n + too_many(rng)?));
     made.unwrap_or_else(|e| {

@@ -3,13 +3,14 @@
 //! this would show nothing.
 use crate::face::{Lent, Report};
 use crate::guarded::same;
+use crate::number::{word_count, Number};
 use crate::packed::Packed;
 use crate::reference::Tables;
 use crate::request::{plain_request, Call};
 use crate::rng::Rng;
 use std::collections::{BTreeMap, BTreeSet};
 
-type Ledger = BTreeMap<u32, u64>;
+type Ledger = BTreeMap<u32, Number>;
 
 /// What the pairs came to.
 #[derive(Default)]
@@ -21,32 +22,32 @@ pub struct Outcome {
 }
 
 /// A signature below 2^width, of few bits or of many.
-fn signature(width: u32, rng: &mut Rng) -> u64 {
-    let s = if rng.one_in(2) { rng.next() } else { rng.next() & rng.next() };
-    if width == 64 { s } else { s & ((1 << width) - 1) }
+fn signature(width: u32, rng: &mut Rng) -> Number {
+    let s = if rng.one_in(2) { Number::random(rng) } else { Number::random(rng) & Number::random(rng) };
+    s.low(width)
 }
 
 /// Some of the signatures, for blocks 1 to B at random.
-fn any_ledger(blocks: usize, from: &[u64], rng: &mut Rng) -> Ledger {
+fn any_ledger(blocks: usize, from: &[Number], rng: &mut Rng) -> Ledger {
     (1..=blocks as u32).filter_map(|b| (!rng.one_in(3)).then(|| (b, rng.pick(from)))).collect()
 }
 
 /// All of the signatures, each in a block of its own, then some of them in other blocks again.
-fn ledger_of(set: &[u64], blocks: usize, rng: &mut Rng) -> Ledger {
+fn ledger_of(set: &[Number], blocks: usize, rng: &mut Rng) -> Ledger {
     let order = rng.shuffled((1..=blocks as u32).collect());
     let again = order[set.len()..].iter().filter_map(|&b| rng.one_in(2).then(|| (b, rng.pick(set)))).collect::<Vec<_>>();
     order.iter().copied().zip(set.iter().copied()).chain(again).collect()
 }
 
 /// The calls that take a block from one entry to another, by way of some others.
-fn way(block: u32, from: Option<u64>, to: Option<u64>, others: &[u64], rng: &mut Rng) -> Vec<Call> {
+fn way(block: u32, from: Option<Number>, to: Option<Number>, others: &[Number], words: usize, rng: &mut Rng) -> Vec<Call> {
     let (mut calls, mut now) = (Vec::new(), from);
-    let mut stops: Vec<Option<u64>> = (0..rng.below(4)).map(|_| rng.one_in(2).then(|| rng.pick(others))).collect();
+    let mut stops: Vec<Option<Number>> = (0..rng.below(4)).map(|_| rng.one_in(2).then(|| rng.pick(others))).collect();
     stops.push(to);
     for stop in stops {
         if stop != now {
             calls.extend(now.map(|_| Call::Withdraw(block)));
-            calls.extend(stop.map(|s| Call::File(block, s)));
+            calls.extend(stop.map(|s| Call::File(block, s.words(words))));
             now = stop;
         }
     }
@@ -68,16 +69,19 @@ fn written(blocks: usize, width: u32, ledger: &Ledger, rng: &mut Rng) -> Tables 
 struct Mirror {
     lent: Lent,
     blocks: usize,
+    /// to a signature
+    words: usize,
 }
 
 impl Mirror {
     /// An index that holds this ledger: a cleared one or any sound store, filed in and withdrawn from in any order, now and then rebuilt.
-    fn grown(blocks: usize, width: u32, ledger: &Ledger, others: &[u64], rng: &mut Rng) -> Mirror {
+    fn grown(blocks: usize, width: u32, ledger: &Ledger, others: &[Number], rng: &mut Rng) -> Mirror {
         let start = if rng.one_in(2) { Ledger::new() } else { any_ledger(blocks, others, rng) };
         let tables = Packed::of(&written(blocks, width, &start, rng));
-        let mut mirror = Mirror { lent: Lent::new(&tables, &plain_request(Call::Audit, blocks), rng), blocks };
+        let words = word_count(width);
+        let mut mirror = Mirror { lent: Lent::new(&tables, &plain_request(Call::Audit, blocks, words), rng), blocks, words };
         let entry = |ledger: &Ledger, b: u32| ledger.get(&b).copied();
-        let ways = (1..=blocks as u32).map(|b| way(b, entry(&start, b), entry(ledger, b), others, rng).into_iter());
+        let ways = (1..=blocks as u32).map(|b| way(b, entry(&start, b), entry(ledger, b), others, words, rng).into_iter());
         let mut ways: Vec<_> = ways.collect();
         while !ways.is_empty() {
             let i = rng.below(ways.len() as u64) as usize;
@@ -94,8 +98,8 @@ impl Mirror {
 
     /// A call, directly or by a slip.
     fn run(&mut self, call: Call, rng: &mut Rng) -> Report {
-        match call.bytes() {
-            Some(bytes) if rng.one_in(3) => self.lent.slip(&bytes),
+        match call.bytes(self.words) {
+            Some(bytes) if rng.one_in(3) => self.lent.run(&Call::Slip(bytes)),
             _ => self.lent.run(&call),
         }
     }
@@ -106,15 +110,17 @@ impl Mirror {
     /// Calls that leave the tables as they are.
     fn left_alone(&mut self, rng: &mut Rng) {
         let before = self.lent.tables();
-        for call in [Call::Audit, Call::File(0, 0), Call::Withdraw(self.blocks as u32 + 1), Call::Clear(65), Call::Search(0)] {
+        let none = vec![0; self.words];
+        let out = self.blocks as u32 + 1;
+        for call in [Call::Audit, Call::File(0, none.clone()), Call::Withdraw(out), Call::Clear(513), Call::Search(none)] {
             if rng.one_in(2) {
                 self.run(call, rng);
             }
         }
         assert!(self.lent.tables() == before);
     }
-    fn search(&mut self, query: u64, rng: &mut Rng) -> (Report, Vec<u32>) {
-        let report = self.run(Call::Search(query), rng);
+    fn search(&mut self, query: Number, rng: &mut Rng) -> (Report, Vec<u32>) {
+        let report = self.run(Call::Search(query.words(self.words)), rng);
         assert_eq!(report.answer, 0);
         let list = self.lent.output()[..report.found as usize].to_vec();
         (report, list)
@@ -126,7 +132,7 @@ fn counts(report: &Report) -> [u32; 2] {
 }
 
 /// Both mirrors are asked, rebuilt, and asked again.
-fn compare(mut mirrors: [Mirror; 2], ledgers: [&Ledger; 2], queries: &[u64], rng: &mut Rng) -> Result<bool, String> {
+fn compare(mut mirrors: [Mirror; 2], ledgers: [&Ledger; 2], queries: &[Number], rng: &mut Rng) -> Result<bool, String> {
     let mut differed = false;
     for &q in queries {
         let [a, b] = mirrors.each_mut().map(|m| m.search(q, rng));
@@ -148,19 +154,19 @@ fn compare(mut mirrors: [Mirror; 2], ledgers: [&Ledger; 2], queries: &[u64], rng
 }
 
 /// Queries for all, for nothing that is stored, and for bits of what is stored.
-fn queries(width: u32, set: &[u64], rng: &mut Rng) -> Vec<u64> {
-    let some = |rng: &mut Rng| if set.is_empty() { 0 } else { rng.pick(set) };
-    let mut queries = vec![0, signature(width, rng), some(rng), some(rng) & rng.next() & rng.next()];
-    queries.extend((0..4).map(|_| some(rng) & rng.next()));
+fn queries(width: u32, set: &[Number], rng: &mut Rng) -> Vec<Number> {
+    let some = |rng: &mut Rng| if set.is_empty() { Number::default() } else { rng.pick(set) };
+    let mut queries = vec![Number::default(), signature(width, rng), some(rng), some(rng) & Number::random(rng) & Number::random(rng)];
+    queries.extend((0..4).map(|_| some(rng) & Number::random(rng)));
     queries
 }
 
 /// One pair, of the same ledger or of the same set.
 fn pair(blocks: [usize; 2], width: u32, rng: &mut Rng, outcome: &mut Outcome) -> Result<(), String> {
-    let others: Vec<u64> = (0..blocks[0].max(blocks[1])).map(|_| signature(width, rng)).collect();
+    let others: Vec<Number> = (0..blocks[0].max(blocks[1])).map(|_| signature(width, rng)).collect();
     let fewer = blocks[0].min(blocks[1]);
     let first = any_ledger(fewer, &others, rng);
-    let set: Vec<u64> = first.values().copied().collect::<BTreeSet<u64>>().into_iter().collect();
+    let set: Vec<Number> = first.values().copied().collect::<BTreeSet<Number>>().into_iter().collect();
     let ledgers = if set.is_empty() || rng.one_in(2) {
         [first.clone(), first]
     } else {
@@ -179,10 +185,10 @@ fn all(rng: &mut Rng, pairs: usize) -> Result<Outcome, String> {
     let mut outcome = Outcome::default();
     for _ in 0..pairs {
         let blocks = [0, 1].map(|_| rng.pick(&[1, 2, 3, 5, 8, 17, 40]));
-        pair(blocks, rng.pick(&[1, 2, 3, 5, 8, 33, 63, 64]), rng, &mut outcome)?;
+        pair(blocks, rng.pick(&[1, 2, 3, 5, 8, 33, 63, 64, 65, 70, 128, 129, 512]), rng, &mut outcome)?;
     }
-    for blocks in [[1024, 1000], [65_535, 65_535], [65_535, 40_000]] {
-        pair(blocks, 64, rng, &mut outcome)?;
+    for (blocks, width) in [([1024, 1000], 512), ([65_535, 65_535], 64), ([65_535, 40_000], 70)] {
+        pair(blocks, width, rng, &mut outcome)?;
     }
     if outcome.differed == 0 {
         return Err("no pair differed before it was rebuilt".into());

@@ -1,4 +1,6 @@
-//! The tables as the calls take them: one word per node, put together and taken apart by its own bits. No code of the library.
+//! The tables as the calls take them: a signature in words, and one word per node, put together and taken apart by its own bits. No code of
+//! the library.
+use crate::number::word_count;
 use crate::reference::{Tables, MOST_BLOCKS};
 use crate::rng::Rng;
 
@@ -18,13 +20,9 @@ pub fn parts(word: u64) -> [u32; 3] {
     FIELDS.map(|(low, bits)| (word >> low & ((1 << bits) - 1)) as u32)
 }
 
-/// The lengths of the three slices that B blocks have.
-pub fn lengths(blocks: usize) -> [usize; 3] {
-    [blocks, 5 + 2 * blocks, blocks.saturating_sub(1)]
-}
-
-pub fn lengths_fit(found: [usize; 3]) -> bool {
-    (1..=MOST_BLOCKS).contains(&found[0]) && found == lengths(found[0])
+/// The lengths of the three slices that B blocks have, with so many words to a signature.
+pub fn lengths(blocks: usize, words: usize) -> [usize; 3] {
+    [blocks * words, 5 + 2 * blocks, blocks.saturating_sub(1)]
 }
 
 #[derive(Clone, Debug, PartialEq, Eq)]
@@ -35,33 +33,44 @@ pub struct Packed {
 }
 
 impl Packed {
-    pub fn blank(blocks: usize) -> Packed {
-        let [n, m, e] = lengths(blocks);
-        Packed { signatures: vec![0; n], links: vec![0; m], nodes: vec![0; e] }
+    /// Tables never cleared, with any words lent for signatures.
+    pub fn blank(blocks: usize, signatures: Vec<u64>) -> Packed {
+        let [_, m, e] = lengths(blocks, 0);
+        Packed { signatures, links: vec![0; m], nodes: vec![0; e] }
     }
 
     /// The same tables as these of 5B + 2 links.
     pub fn of(t: &Tables) -> Packed {
         let (rows, nodes) = t.links.split_at(5 + 2 * t.blocks());
         let nodes = nodes.chunks(3).map(|n| word([n[0], n[1], n[2]])).collect();
-        Packed { signatures: t.signatures.clone(), links: rows.to_vec(), nodes }
+        Packed { signatures: t.words(), links: rows.to_vec(), nodes }
     }
 
-    /// The same tables in 5B + 2 links.
-    pub fn open(&self) -> Tables {
+    /// The same tables in 5B + 2 links, or none where question 4 refuses these.
+    pub fn open(&self) -> Option<Tables> {
         let nodes = self.nodes.iter().flat_map(|&w| parts(w));
-        Tables { signatures: self.signatures.clone(), links: self.links.iter().copied().chain(nodes).collect() }
+        self.long().then(|| Tables::read(&self.signatures, self.links.iter().copied().chain(nodes).collect())).flatten()
     }
 
+    /// B, told from the links.
     pub fn blocks(&self) -> usize {
-        self.signatures.len()
+        self.links.len().saturating_sub(5) / 2
+    }
+    /// The words of a signature, by word 0 of the links; 0 before the first clear.
+    pub fn words(&self) -> usize {
+        word_count(self.links.first().copied().unwrap_or(0))
     }
     pub fn lengths(&self) -> [usize; 3] {
         [self.signatures.len(), self.links.len(), self.nodes.len()]
     }
-    /// Question 4: the lengths of the three slices, then what the tables of 5B + 2 links ask.
-    pub fn fit(&self) -> bool {
-        lengths_fit(self.lengths()) && self.open().fit()
+    /// Block b's words, where a signature has so many.
+    pub fn block(&self, b: usize, words: usize) -> &[u64] {
+        self.signatures.get((b - 1) * words..b * words).unwrap_or_default()
+    }
+    /// Do the lengths of links and nodes, and B, fit?
+    pub fn long(&self) -> bool {
+        let b = self.blocks();
+        (1..=MOST_BLOCKS).contains(&b) && [self.links.len(), self.nodes.len()] == lengths(b, 0)[1..]
     }
 
     /// These tables, cut or drawn out with random words to other lengths.

@@ -1,8 +1,9 @@
 //! The plain tree of the tables, and a search by a scan of the blocks and by the tree's paths. Sound tables only.
+use crate::number::Number;
 use crate::reference::{bit, Tables};
 
 enum Tree {
-    Leaf(u64),
+    Leaf(Number),
     Node(u32, Box<Tree>, Box<Tree>),
 }
 
@@ -19,7 +20,7 @@ pub struct Found {
 
 impl Tree {
     /// The path of each leaf, with its signature, and of each node.
-    fn paths(&self, path: &mut Path, leaves: &mut Vec<(u64, Path)>, nodes: &mut Vec<Path>) {
+    fn paths(&self, path: &mut Path, leaves: &mut Vec<(Number, Path)>, nodes: &mut Vec<Path>) {
         match self {
             Tree::Leaf(s) => leaves.push((*s, path.clone())),
             Tree::Node(p, left, right) => {
@@ -48,15 +49,15 @@ impl Tables {
     }
 
     /// The list by a scan of the filed blocks; the counts by the paths of the tree.
-    pub fn search(&self, q: u64) -> Found {
-        let covers = |b: &u32| self.filed(*b as usize) && self.signatures[*b as usize - 1] & q == q;
+    pub fn search(&self, q: Number) -> Found {
+        let covers = |b: &u32| self.filed(*b as usize) && self.signatures[*b as usize - 1].covers(q);
         let blocks = (1..=self.blocks() as u32).filter(covers).collect();
         let (mut leaves, mut nodes) = (Vec::new(), Vec::new());
         if let Some(tree) = self.tree(self.links[2] as usize) {
             tree.paths(&mut Vec::new(), &mut leaves, &mut nodes);
         }
         let width = self.width();
-        let agrees = |(s, path): &(u64, Path)| path.iter().all(|&(p, e)| bit(width, *s, p) == e);
+        let agrees = |(s, path): &(Number, Path)| path.iter().all(|&(p, e)| bit(width, *s, p) == e);
         assert!(leaves.iter().all(agrees), "a leaf disagrees with its path");
         let reached = |path: &Path| path.iter().all(|&(p, e)| e == 1 || bit(width, q, p) == 0);
         let compares = leaves.iter().filter(|(_, path)| reached(path)).count() as u32;

@@ -1,25 +1,44 @@
-//! An independent reading of the customer's request, for tests alone: the tables of 5B + 2 links, and what each call leaves in them,
-//! word for word. No code of the library.
+//! An independent reading of the customer's request, for tests alone: the tables of 5B + 2 links over signatures that are numbers, and what
+//! each call leaves in them, word for word. No code of the library.
+use crate::number::{word_count, Number, WIDEST};
 use std::collections::BTreeMap;
 
 pub const MOST_BLOCKS: usize = 65535;
 
-pub fn bit(width: u32, s: u64, position: u32) -> u64 {
-    (s >> (width - position)) & 1
+/// How many links B blocks have in this form.
+pub fn links_of(blocks: usize) -> usize {
+    5 * blocks + 2
 }
 
-pub fn below(width: u32, s: u64) -> bool {
-    width >= 64 || s >> width == 0
+pub fn bit(width: u32, s: Number, position: u32) -> u64 {
+    s.bit(width - position)
 }
 
-/// Two tables and nothing else: the width and the number of blocks are read from them.
+/// Tables of which question 4 is answered: a signature for each block, the links, and nothing else.
 #[derive(Clone, Debug, PartialEq, Eq)]
 pub struct Tables {
-    pub signatures: Vec<u64>,
+    pub signatures: Vec<Number>,
     pub links: Vec<u32>,
 }
 
 impl Tables {
+    /// The tables in these words, or none where question 4 refuses them. B is told from the links.
+    pub fn read(words: &[u64], links: Vec<u32>) -> Option<Tables> {
+        let blocks = links.len().saturating_sub(2) / 5;
+        let fit = (1..=MOST_BLOCKS).contains(&blocks)
+            && links.len() == links_of(blocks)
+            && (1..=WIDEST).contains(&links[0])
+            && links[1] as usize == blocks
+            && words.len() == blocks * word_count(links[0]);
+        fit.then(|| Tables { signatures: words.chunks(word_count(links[0])).map(Number::read).collect(), links })
+    }
+    /// The words of the signatures.
+    pub fn words(&self) -> Vec<u64> {
+        let count = word_count(self.width());
+        let mut words = Vec::with_capacity(self.blocks() * count);
+        self.signatures.iter().for_each(|s| words.extend(s.high_first(count)));
+        words
+    }
     pub fn blocks(&self) -> usize {
         self.signatures.len()
     }
@@ -38,16 +57,9 @@ impl Tables {
     pub fn filed(&self, b: usize) -> bool {
         self.links[Tables::filed_at(b)] != 0
     }
-    pub fn lengths_fit(&self) -> bool {
-        let b = self.blocks();
-        (1..=MOST_BLOCKS).contains(&b) && self.links.len() == 5 * b + 2
-    }
-    pub fn fit(&self) -> bool {
-        self.lengths_fit() && (1..=64).contains(&self.links[0]) && self.links[1] as usize == self.blocks()
-    }
 
     pub fn cleared(blocks: usize, width: u32) -> Tables {
-        let mut t = Tables { signatures: vec![0; blocks], links: vec![0; 5 * blocks + 2] };
+        let mut t = Tables { signatures: vec![Number::default(); blocks], links: vec![0; links_of(blocks)] };
         t.links[0] = width;
         t.links[1] = blocks as u32;
         t.links[3] = if blocks > 1 { 1 } else { 0 };
@@ -59,7 +71,7 @@ impl Tables {
     }
 
     /// The addresses of the references that the walk by s passes; the last holds a leaf or nothing. Sound tables only.
-    fn way(&self, s: u64) -> Vec<usize> {
+    fn way(&self, s: Number) -> Vec<usize> {
         let mut way = vec![2];
         loop {
             let r = self.links[*way.last().unwrap()] as usize;
@@ -71,7 +83,7 @@ impl Tables {
         }
     }
 
-    pub fn file(&mut self, b: usize, s: u64) {
+    pub fn file(&mut self, b: usize, s: Number) {
         let at = *self.way(s).last().unwrap();
         let leaf = self.links[at] as usize;
         self.signatures[b - 1] = s;
@@ -119,11 +131,11 @@ impl Tables {
         }
         self.links[Tables::next_at(b)] = 0;
         self.links[Tables::filed_at(b)] = 0;
-        self.signatures[b - 1] = 0;
+        self.signatures[b - 1] = Number::default();
         self.links[4] -= 1;
     }
 
-    fn heads(&self, r: usize, heads: &mut BTreeMap<u64, u32>) {
+    fn heads(&self, r: usize, heads: &mut BTreeMap<Number, u32>) {
         if r == 0 {
         } else if r <= self.blocks() {
             heads.insert(self.signatures[r - 1], r as u32);
@@ -134,7 +146,7 @@ impl Tables {
         }
     }
 
-    fn place(&mut self, group: Vec<u64>, heads: &BTreeMap<u64, u32>, count: &mut usize) -> u32 {
+    fn place(&mut self, group: Vec<Number>, heads: &BTreeMap<Number, u32>, count: &mut usize) -> u32 {
         if group.len() == 1 {
             return heads[&group[0]];
         }
@@ -148,7 +160,7 @@ impl Tables {
         }
         *count += 1;
         let node = *count;
-        let (right, left): (Vec<u64>, Vec<u64>) = group.into_iter().partition(|&s| bit(width, s, best) == 1);
+        let (right, left): (Vec<Number>, Vec<Number>) = group.into_iter().partition(|&s| bit(width, s, best) == 1);
         let left = self.place(left, heads, count);
         let right = self.place(right, heads, count);
         let row = self.node_at(node);
@@ -160,7 +172,7 @@ impl Tables {
         let mut heads = BTreeMap::new();
         self.heads(self.links[2] as usize, &mut heads);
         let mut count = 0;
-        let group: Vec<u64> = heads.keys().copied().collect();
+        let group: Vec<Number> = heads.keys().copied().collect();
         self.links[2] = if group.is_empty() { 0 } else { self.place(group, &heads, &mut count) };
         let blocks = self.blocks();
         let chain = |i: usize| if i < blocks { i as u32 } else { 0 };

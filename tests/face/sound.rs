@@ -1,5 +1,6 @@
-//! Soundness of the tables of 5B + 2 links, clause by clause.
-use crate::reference::{below, bit, Tables};
+//! Soundness of tables of 5B + 2 links, clause by clause; that lengths and words 0 and 1 fit is asked before.
+use crate::number::Number;
+use crate::reference::{bit, Tables};
 
 /// What a walk from the root has met: blocks on chains, and nodes.
 struct Met {
@@ -14,9 +15,6 @@ fn first_time(seen: &mut [bool], i: usize) -> bool {
 
 impl Tables {
     pub fn sound(&self) -> bool {
-        if !self.fit() {
-            return false;
-        }
         let mut met = Met { blocks: vec![false; self.blocks() + 1], nodes: vec![false; self.blocks()] };
         let root = self.links[2] as usize;
         if root != 0 && !self.reference_sound(root, &mut Vec::new(), &mut met) {
@@ -67,13 +65,13 @@ impl Tables {
     /// Every filed block is on a chain and counted, every other row is 0, and all signatures are below 2^F.
     fn rows_sound(&self, met: &Met) -> bool {
         let row_sound = |b: usize| match self.links[Tables::filed_at(b)] {
-            0 => self.signatures[b - 1] == 0 && self.links[Tables::next_at(b)] == 0,
+            0 => self.signatures[b - 1] == Number::default() && self.links[Tables::next_at(b)] == 0,
             1 => met.blocks[b],
             _ => false,
         };
         let filed = (1..=self.blocks()).filter(|&b| self.filed(b)).count();
         (1..=self.blocks()).all(row_sound)
-            && self.signatures.iter().all(|&s| below(self.width(), s))
+            && self.signatures.iter().all(|s| s.below(self.width()))
             && self.links[4] as usize == filed
             && (self.links[2] == 0) == (filed == 0)
     }

@@ -1,6 +1,7 @@
 //! One request on the library beside the independent reading: answer, counts, and every word of what was lent.
 use crate::face::{Lent, Report};
 use crate::guarded::same;
+use crate::number::Number;
 use crate::packed::Packed;
 use crate::reference::Tables;
 use crate::request::{refusal, Call, Request};
@@ -20,20 +21,26 @@ impl Made<'_> {
     }
 }
 
-/// Runs one request on the library and says what is wrong; on success the tables become what the library left.
+/// Runs one request on the library and says what is wrong; on success the tables become what a call on sound ones, or a clear, has left,
+/// with the signature slice that it was lent.
 pub fn step(p: &mut Packed, r: &Request, rng: &mut Rng) -> Result<(), String> {
-    let tables = p.resized(r.tables, rng);
+    let mut tables = p.resized(r.tables, rng);
+    if r.another {
+        tables.signatures.iter_mut().for_each(|w| *w = rng.next());
+    }
     let lent = Lent::new(&tables, r, rng);
     let mut left = lent.clone();
     let report = left.run(&r.call);
     left.guards()?;
     let made = Made { lent: &lent, left: &left, report: &report };
-    let call = match r.call.read() {
+    let t = tables.open();
+    let call = match r.call.read(t.as_ref()) {
         Err(number) => return made.agrees(&Report::bare(number), &lent),
         Ok(call) => call,
     };
-    match refusal(&call, &tables, r) {
-        0 => carried_out(p, &call, tables.open(), &made),
+    match refusal(&call, &tables, t.as_ref(), r) {
+        // a clear reads none of the old words
+        0 => carried_out(p, &call, t.unwrap_or_else(|| Tables::cleared(tables.blocks(), 1)), &made),
         number => made.agrees(&Report::bare(number), &lent),
     }
 }
@@ -49,10 +56,12 @@ fn carried_out(p: &mut Packed, call: &Call, mut t: Tables, made: &Made) -> Resul
     let after = Packed::of(&t);
     expected.set_tables(&after);
     made.agrees(&report, &expected)?;
-    if (sound || matches!(call, Call::Clear(_))) && !t.sound() {
-        return Err("the reference left unsound tables".into());
+    if sound || matches!(call, Call::Clear(_)) {
+        if !t.sound() {
+            return Err("the reference left unsound tables".into());
+        }
+        *p = after;
     }
-    *p = after;
     Ok(())
 }
 
@@ -66,10 +75,10 @@ fn carry_out(call: &Call, sound: bool, t: &mut Tables, expected: &mut Lent, left
             t.rebuild();
             expected.free_scratch(left, blocks);
         }
-        Call::File(b, s) => t.file(*b as usize, *s),
+        Call::File(b, s) => t.file(*b as usize, Number::read(s)),
         Call::Withdraw(b) => t.withdraw(*b as usize),
         Call::Search(q) => {
-            let found = t.search(*q);
+            let found = t.search(Number::read(q));
             expected.list(&found.blocks, blocks);
             return Report { answer: 0, found: found.blocks.len() as u32, compares: found.compares, bits: found.bits };
         }
@@ -83,7 +92,7 @@ fn any_tables(call: &Call, t: &Tables, made: &Made) -> Result<(), String> {
     let (blocks, given_up) = (t.blocks(), made.report.answer == 11);
     let mut expected = made.lent.clone();
     match call {
-        Call::Search(q) if !given_up => return any_list(*q, t, made),
+        Call::Search(q) if !given_up => return any_list(Number::read(q), t, made),
         Call::Search(_) => expected.free_marks(made.left, blocks),
         _ if !given_up => expected.set_tables(&made.left.tables()),
         _ => {}
@@ -92,10 +101,10 @@ fn any_tables(call: &Call, t: &Tables, made: &Made) -> Result<(), String> {
 }
 
 /// A list that a search of unsound tables gave: filed covering blocks, ascending, after few enough nodes and compares.
-fn any_list(q: u64, t: &Tables, made: &Made) -> Result<(), String> {
+fn any_list(q: Number, t: &Tables, made: &Made) -> Result<(), String> {
     let (blocks, report) = (t.blocks(), made.report);
     let list = made.left.output().get(..report.found as usize).unwrap_or_default();
-    let matches = |b: &u32| (1..=blocks).contains(&(*b as usize)) && t.filed(*b as usize) && t.signatures[*b as usize - 1] & q == q;
+    let matches = |b: &u32| (1..=blocks).contains(&(*b as usize)) && t.filed(*b as usize) && t.signatures[*b as usize - 1].covers(q);
     let fine = report.answer == 0
         && list.len() == report.found as usize
         && list.windows(2).all(|w| w[0] < w[1])

@@ -1,14 +1,19 @@
 //! Drives the signer and the splitter with random texts, good and bad, beside an independent reading of the request.
 use crate::c_face::*;
+use crate::guarded::{same, Guarded};
+use crate::number::{word_count, Number};
+use crate::request::WIDTHS;
 use crate::rng::Rng;
 
-/// A text and what is asked of it.
+/// A text and what is asked of it, with so many words lent for its signature.
 #[derive(Clone, Debug)]
 struct Asked {
     text: Vec<u8>,
     width: u32,
     k: u32,
+    words: usize,
     n: u32,
+    null: bool,
 }
 
 /// The longest runs of bytes other than 32 and 10: where each starts, and its size.
@@ -24,18 +29,18 @@ fn runs(text: &[u8]) -> Vec<(usize, usize)> {
     all
 }
 
-/// The answer and the signature.
-fn signature(a: &Asked) -> (u32, u64) {
-    if !(1..=64).contains(&a.width) {
-        return (4, 0);
+/// The signature, or the number that refuses it.
+fn signature(a: &Asked) -> Result<Number, u32> {
+    if !(1..=512).contains(&a.width) || a.words != word_count(a.width) {
+        return Err(4);
     }
     if a.text.len() > 4096 {
-        return (12, 0);
+        return Err(12);
     }
     if !(1..=8).contains(&a.k) {
-        return (13, 0);
+        return Err(13);
     }
-    let mut s = 0;
+    let mut s = Number::default();
     for (start, size) in runs(&a.text) {
         let mut positions = Vec::new();
         for t in a.text[start..start + size].windows(3) {
@@ -44,9 +49,11 @@ fn signature(a: &Asked) -> (u32, u64) {
                 positions.push(position);
             }
         }
-        s |= positions.iter().fold(0u64, |s, p| s | 1 << (a.width - p));
+        for p in positions {
+            s = s.with(a.width - p);
+        }
     }
-    (0, s)
+    Ok(s)
 }
 
 /// The answer, and where the word stands.
@@ -60,17 +67,22 @@ fn place(a: &Asked) -> (u32, usize, usize) {
 }
 
 fn check(a: &Asked) -> Result<(), String> {
-    let text = a.text.clone();
-    let (mut answer, mut start, mut size) = (77, 77, 77);
-    let s = unsafe { sigtree_sign(text.as_ptr(), text.len(), a.width, a.k, &mut answer) };
-    if (answer, s) != signature(a) {
-        return Err(format!("sign: got {:?}, expected {:?}", (answer, s), signature(a)));
-    }
-    answer = unsafe { sigtree_word(text.as_ptr(), text.len(), a.n, &mut start, &mut size) };
-    if (answer, start, size) != place(a) {
-        return Err(format!("word: got {:?}, expected {:?}", (answer, start, size), place(a)));
-    }
-    if text == a.text { Ok(()) } else { Err("the text has changed".into()) }
+    let mut text = Guarded::new(&a.text, 0x3c);
+    let old: Vec<u64> = (0..a.words as u64).map(|i| 0x1234_5678_9abc_def0 + i).collect();
+    let mut words = Guarded::new(&old, 0x5a5a_5a5a_5a5a_5a5a);
+    let ((t, m), (s, n)) = (text.lend(a.null), words.lend(a.null));
+    let answer = unsafe { sigtree_sign(t, m, a.width, a.k, s, n) };
+    let (number, left) = match signature(a) {
+        Ok(s) => (0, s.words(a.words)),
+        Err(number) => (number, old),
+    };
+    same("sign: answer", &answer, &number)?;
+    same("sign: words", &words.data(), &&left[..])?;
+    let (mut start, mut size) = (77, 77);
+    let answer = unsafe { sigtree_word(t, m, a.n, &mut start, &mut size) };
+    same("word", &(answer, start, size), &place(a))?;
+    same("text", &text.data(), &&a.text[..])?;
+    if text.kept() && words.kept() { Ok(()) } else { Err("a guard word has changed".into()) }
 }
 
 /// The shortest text found by leaving bytes out of one that fails.
@@ -93,11 +105,15 @@ pub fn texts(rng: &mut Rng, count: usize) -> usize {
         let length = if rng.one_in(200) { 4090 + rng.below(12) } else { rng.below(40) };
         let few = rng.one_in(2);
         let text = (0..length).map(|_| if rng.one_in(5) { rng.pick(&[32, 10]) } else if few { 97 + rng.below(3) as u8 } else { rng.next() as u8 }).collect();
+        let width = if rng.one_in(8) { rng.pick(&[0, 513, 576, u32::MAX]) } else { rng.pick(&WIDTHS) };
+        let own = word_count(width).min(9);
         let asked = Asked {
             text,
-            width: rng.pick(&[0, 1, 2, 3, 12, 24, 63, 64, 64, 65, u32::MAX]),
+            width,
             k: rng.pick(&[0, 1, 2, 3, 4, 5, 6, 7, 8, 9, u32::MAX]),
+            words: if rng.one_in(10) { rng.pick(&[0, own.saturating_sub(1), own + 1, 8]) } else { own },
             n: if rng.one_in(20) { u32::MAX } else { rng.below(8) as u32 },
+            null: rng.one_in(2),
         };
         if let Err(e) = check(&asked) {
             shrink(asked, e);

@@ -1,11 +1,12 @@
-"""An independent reading of the customer's request (document 01), for tests alone: no code of the library is used.
+"""An independent reading of the customer's request (document 01 and Ticket 9), for tests alone: no code of the library is used.
 
-Index keeps the ledger and the tables in the form of 5B + 2 links, word for word: the form that the request's rules are about. sigrun's
-tables have one word per node, and its lines are the same. A search's list comes from a linear scan of the ledger; its counts come from
-the paths of the plain tree. The tables come from walking the links as the request tells it. `check` holds the three to each other.
+A signature is a number below 2^width, of any width: words appear only where a slip's length is told from the width. Index keeps the
+ledger and the tables in the form of 5B + 2 links, word for word: the form that the request's rules are about. sigrun's tables have one
+word per node, and its lines are the same. A search's list comes from a linear scan of the ledger; its counts come from the paths of the
+plain tree. The tables come from walking the links as the request tells it. `check` holds the three to each other.
 """
 
-WIDEST, MOST_BLOCKS = 64, 65535
+WIDEST, MOST_BLOCKS = 512, 65535
 
 
 def bit(width, signature, position):
@@ -25,7 +26,7 @@ def best_position(width, group):
 
 
 class Index:
-    """Tables of `blocks` blocks; `signatures` and the 5B + 2 `links` are plain lists, all 0 at the start."""
+    """Tables of `blocks` blocks; `signatures` (numbers) and the 5B + 2 `links` are plain lists, all 0 at the start."""
 
     def __init__(self, blocks):
         self.blocks = blocks
@@ -186,8 +187,15 @@ class Index:
         assert self.links[4] == len(self.ledger)
 
 
-def slip(kind, block=0, signature=0):
-    return bytes([kind, 0, 0, 0]) + block.to_bytes(4, 'big') + signature.to_bytes(8, 'big')
+def field_size(width):
+    """The bytes of a signature: 8 for each 64 positions begun."""
+    return len(range(0, width, 64)) * 8
+
+
+def slip(kind, block=0, signature=0, width=64):
+    """A slip for an index of this width; kind 0 has one word."""
+    size = 8 if kind == 0 else field_size(width)
+    return bytes([kind, 0, 0, 0]) + block.to_bytes(4, 'big') + signature.to_bytes(size, 'big')
 
 
 def carry_out(index, data, scratch=1024, marks=1024, output=1024):
@@ -195,9 +203,11 @@ def carry_out(index, data, scratch=1024, marks=1024, output=1024):
     kind = data[0] if data else None
 
     def refused(n): return [kind, n, 0, 0, 0]
-    if len(data) != 16: return refused(1)
+    if not data: return refused(1)
     if kind > 4: return refused(2)
-    block, signature = int.from_bytes(data[4:8], 'big'), int.from_bytes(data[8:16], 'big')
+    if kind != 0 and not index.fits(): return refused(4)
+    if len(data) != 8 + (8 if kind == 0 else field_size(index.width)): return refused(1)
+    block, signature = int.from_bytes(data[4:8], 'big'), int.from_bytes(data[8:], 'big')
     if any(data[1:4]) or (kind in (3, 4) and block) or (kind in (0, 2, 3) and signature): return refused(3)
     if kind == 0: return refused(index.clear(block))
     if kind == 1: return refused(index.file(block, signature))
@@ -205,3 +215,17 @@ def carry_out(index, data, scratch=1024, marks=1024, output=1024):
     if kind == 3: return refused(index.rebuild(scratch))
     answer, found, compares, bits, blocks = index.search(signature, marks, output)
     return [kind, answer, found, compares, bits] + blocks
+
+
+def slip_size(index, kind):
+    """How many bytes sigrun takes for a slip that begins with this byte: 16 for a clear, for what is no kind, and before the first clear."""
+    return 8 + field_size(index.width) if 1 <= kind <= 4 and index.width else 16
+
+
+def serve(index, stream):
+    """The slips that sigrun takes from a stream, each with its line; the last one may be short."""
+    at = 0
+    while at < len(stream):
+        data = stream[at:at + slip_size(index, stream[at])]
+        at += len(data)
+        yield data, carry_out(index, data)

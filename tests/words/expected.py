@@ -1,12 +1,13 @@
 #!/usr/bin/env python3
-"""What the program `signed` must print, from an independent reading of document 01, "Words": no code of the library is used.
+"""What the program `signed` must print, from an independent reading of document 01, "Words", and Ticket 9: no code of the library is used.
 
 Rewrite the stored output from the repository's root:   python3 tests/words/expected.py > crates/signed/stdout
-The examples stand here in the order of crates/signed/src/main.rt.
+The examples stand here in the order of crates/signed/src/main.rt. Each lends words that are 7: the signer fills them, high word first, or
+leaves them.
 """
 import re
 
-LONGEST, MOST = 4096, 8
+LONGEST, MOST, WIDEST = 4096, 8, 512
 
 
 def words(text):
@@ -23,22 +24,41 @@ def positions(word, width, k):
     return found[:k]
 
 
-def sign(text, width, k):
-    """The answer, and the signature: a set of positions, read from the left."""
-    if not 1 <= width <= 64:
-        return 4, 0
-    if len(text) > LONGEST:
-        return 12, 0
-    if not 1 <= k <= MOST:
-        return 13, 0
+def row(text, width, k):
+    """The signature as a row of 0 and 1."""
     is_set = {p for _, word in words(text) for p in positions(word, width, k)}
-    return 0, int("".join("1" if p in is_set else "0" for p in range(1, width + 1)), 2)
+    return "".join("1" if p in is_set else "0" for p in range(1, width + 1))
 
 
-def show(text, width, k):
-    answer, signature = sign(text, width, k)
-    print(f"bytes {len(text)} width {width} k {k} answer {answer} signature {signature}")
-    return signature
+def in_words(bits):
+    """A row in words of 64: what the first has no bits for is 0."""
+    while len(bits) % 64 != 0:
+        bits = "0" + bits
+    return [int(bits[i:i + 64], 2) for i in range(0, len(bits), 64)]
+
+
+def sign(text, width, k, lent):
+    """The answer, and the lent words as they are left."""
+    untouched = [7] * lent
+    if not 1 <= width <= WIDEST or lent != len(in_words("0" * width)):
+        return 4, untouched
+    if len(text) > LONGEST:
+        return 12, untouched
+    if not 1 <= k <= MOST:
+        return 13, untouched
+    return 0, in_words(row(text, width, k))
+
+
+def show(text, width, k, lent=1):
+    answer, left = sign(text, width, k, lent)
+    print(f"bytes {len(text)} width {width} k {k} lent {lent} answer {answer} signature", *left)
+
+
+def covered(width, lent, k, block, queries):
+    for text in (block, *queries):
+        show(text, width, k, lent)
+    rows = [row(text, width, k) for text in (block, *queries)]
+    print("covers", *(int(all(s == "1" or q == "0" for s, q in zip(rows[0], query))) for query in rows[1:]))
 
 
 def split(text, n):
@@ -48,26 +68,31 @@ def split(text, n):
     print(f"word {n} answer {answer} bytes {len(word)} [{word.decode()}] answer {answer} start {start} size {len(word)}")
 
 
-def covers(signature, query):
-    return int(all(s == "1" or q == "0" for s, q in zip(f"{signature:064b}", f"{query:064b}")))
-
-
 long = bytes(i % 251 for i in range(4097))
 
+# triplets
 for text, width, k in [(b"pro", 12, 8), (b"rof", 12, 8), (b"prof", 12, 8), (b"prof", 12, 1), (b"of prof\nof", 12, 8),
                        (b"a", 12, 8), (b"ab", 12, 8), (b"abc", 12, 8)]:
     show(text, width, k)
+# edges
 for text, width, k in [(b"", 12, 8), (b"  \n \n", 12, 8), (b"aaaaaaaa", 12, 8), (b"aaaab", 12, 1), (b"aaaab", 12, 2),
                        (b"the quick brown fox", 1, 8), (b"the quick brown fox", 64, 8), (b"the quick brown fox", 64, 1)]:
     show(text, width, k)
 show(long[:4096], 64, 8)
 show(long[:4096], 12, 1)
-for text, width, k in [(b"prof", 0, 8), (b"prof", 65, 8), (b"prof", 12, 0), (b"prof", 12, 9), (long, 64, 8), (long, 0, 0), (long, 64, 0)]:
-    show(text, width, k)
-block = show(b"the quick brown fox\njumps", 64, 3)
-query = show(b"fox the", 64, 3)
-other = show(b"lazy dog", 64, 3)
-print("covers", covers(block, query), covers(block, other))
+# widths over 64
+for width, lent in [(65, 2), (70, 2), (127, 2), (128, 2), (129, 3), (511, 8), (512, 8)]:
+    show(b"the quick brown fox", width, 8, lent)
+show(long[:4096], 70, 8, 2)
+show(long[:4096], 512, 8, 8)
+# refusals
+for text, width, k, lent in [(b"prof", 0, 8, 0), (b"prof", 0, 8, 1), (b"prof", 513, 8, 8), (b"prof", 513, 8, 9), (b"prof", 64, 8, 0),
+                             (b"prof", 64, 8, 2), (b"prof", 65, 8, 1), (b"prof", 65, 8, 3), (b"prof", 512, 8, 7), (b"prof", 12, 0, 1),
+                             (b"prof", 70, 9, 2), (long, 64, 8, 1), (long, 0, 0, 1), (long, 64, 0, 1), (long, 70, 0, 1), (long, 70, 0, 2)]:
+    show(text, width, k, lent)
+covered(64, 1, 3, b"the quick brown fox\njumps", (b"fox the", b"lazy dog"))
+covered(70, 2, 3, b"the quick brown fox\njumps", (b"fox the", b"lazy dog"))
+# words
 for n in range(5):
     split(b"  the quick\n\nfox\n", n)
 split(b"last", 1)

@@ -8,13 +8,13 @@ use std::fmt;
 // A question by what its no says, with the question's number.
 #[derive(Clone, Copy, Debug, PartialEq, Eq)]
 pub enum Refusal {
-    // the slip is not sixteen bytes
+    // the slip is not as long as its kind is, at the tables' width
     NotASlip = 1,
     // the slip is of no kind that there is
     UnknownKind = 2,
     // a field that the slip's kind does not use is not 0
     FieldUsed = 3,
-    // the lengths, the number of blocks, the width or words 0 and 1 do not fit
+    // the lengths, that of a signature or query too, the number of blocks, the width or words 0 and 1 do not fit
     Unfit = 4,
     // the block is none of the tables'
     NoBlock = 5,
@@ -47,10 +47,11 @@ impl From<Refusal> for u32 {
 impl fmt::Display for Refusal {
     fn fmt<W: fmt::Write>(&self, f: &mut fmt::Formatter<W>) -> fmt::Result {
         f.write_str(match self {
-            Refusal::NotASlip => "the slip is not sixteen bytes",
+            Refusal::NotASlip => "the slip is not as long as its kind",
             Refusal::UnknownKind => "the slip is of no kind that there is",
             Refusal::FieldUsed => "a field that the slip's kind does not use is not 0",
-            Refusal::Unfit => "the lengths or the first words of the tables do not fit",
+            Refusal::Unfit =>
+                "the lengths or the first words of the tables do not fit, or the length of a signature",
             Refusal::NoBlock => "the block is none of the tables'",
             Refusal::TooLarge => "the signature does not fit the width",
             Refusal::Filed => "the block is filed already",

@@ -13,6 +13,7 @@ use lib.Dec.{eqb, ltb}
 use lib.ListN.{length}
 use borrow.Author.Tests.{eq-eqb, ne_eqb, le-ltb, eqb-true, ltb-false}
 use Rattle.std.specs.Prelude.{Option, None, Some}
+use Rattle.model.specs.Basics.{pick}
 use Rattle.model.specs.Tables.{next_of, filed_of, signature_of}
 use Rattle.model.specs.Sound.{Chain}
 use Rattle.audit.specs.Audit.{block_ok, chain_twin}
@@ -38,6 +39,14 @@ block_yes S L s b e =
 block_whole : (S L : List ℕ) (s b : ℕ) → BlockIs S L s b → block_ok S L s b ≡ true
 unfolding block_ok
 block_whole S L s b x = simp (le-ltb _ _ x.to, eq-eqb _ _ x.filed, eq-eqb _ _ x.same)
+
+block_none : (S L : List ℕ) (s b : ℕ) → (filed_of L b ≡ 1 → ⊥) → block_ok S L s b ≡ false
+unfolding block_ok
+block_none S L s b n = go (ltb (length S) b)
+  where
+    go : (t : Bool) → pick t false (pick (eqb (filed_of L b) 1) (eqb (signature_of S b) s) false) ≡ false
+    go true = refl
+    go false = simp (ne_eqb _ _ n)
 
 -- the steps of a chain's walk
 module _ (S L : List ℕ) (s b : ℕ) where
@@ -65,6 +74,18 @@ module _ (S L : List ℕ) (s b : ℕ) where
 
   chain_step_is : (k : ℕ) → (b ≡ 0 → ⊥) → block_ok S L s b ≡ true → chain_twin (suc k) S L s b ≡ chain_twin k S L s (next_of L b)
   chain_step_is k ne e = let d : suc k - 1 ≡ k = omega arith in chain_go (suc k) (omega arith) ne e ∙ ap (λ (n : ℕ). chain_twin n S L s (next_of L b)) d
+
+-- the head of a chain has its own signature: of it only the filed word is asked
+module _ (S L : List ℕ) (b k : ℕ) (ne : b ≡ 0 → ⊥) where
+  pub head_none : (k ≡ 0) ⊎ ((k ≡ 0 → ⊥) × (filed_of L b ≡ 1 → ⊥)) → chain_twin k S L (signature_of S b) b ≡ None
+  head_none (inl z) = chain_none S L (signature_of S b) b k z ne
+  head_none (inr n) = chain_stop S L (signature_of S b) b k ne unfiled
+    where
+      unfiled : block_ok S L (signature_of S b) b ≡ false
+      unfiled = block_none S L (signature_of S b) b n.1
+
+  pub head_next : b ≤ length S → (k ≡ 0 → ⊥) → filed_of L b ≡ 1 → chain_twin k S L (signature_of S b) b ≡ chain_twin (k - 1) S L (signature_of S b) (next_of L b)
+  head_next to nk f = chain_go S L (signature_of S b) b k nk ne (block_whole S L (signature_of S b) b (record { to = to; filed = f; same = refl }))
 
 -- the blocks from block number b by the next words, zero ending
 abbrev pub From : ℕ → List ℕ → ℕ → List ℕ → Type 0

@@ -17,8 +17,7 @@ use Rattle.model.specs.Packed.{rows_of, unpacked}
 use Rattle.model.proofs.Packing.{row_word}
 use Rattle.tables.specs.Fits.{RowsFit}
 use Rattle.audit.specs.declared.walk.Lent.{Lent}
-use Rattle.audit.specs.declared.walk.Tested.{Tested}
-use Rattle.audit.specs.Audit.{rows_ok, block_ok, chain_twin, leaf_twin}
+use Rattle.audit.specs.Audit.{Tested, rows_ok, block_ok, chain_twin, leaf_twin}
 use Rattle.audit.proofs.ChainLaws.{block_yes}
 
 module _ (sigs links nodes : List ℕ) (R : RowsFit sigs links) where

@@ -1,6 +1,6 @@
 -- What the code's tests say of the tables held, by the rows that it reads of a form.
 -- Assumes nothing.
-use Prim.Native.Nat.{ℕ, ◌-◌, ◌^◌, ◌≤◌, ◌<◌}
+use Prim.Native.Nat.{ℕ, ◌-◌, ◌≤◌, ◌<◌}
 use native.Mathlib.Decide.{dec_lt, ℕ_discrete}
 use native.Mathlib.Omega.{arith}
 use mathlib.Core.Path.{◌≡◌, sym, ◌∙◌, ap, ap₂}
@@ -18,9 +18,8 @@ use Rattle.model.specs.Packed.{unpacked}
 use Rattle.signature.specs.declared.position.Position.{Position}
 use Rattle.tables.specs.Fits.{Fits, PartsOf}
 use Rattle.audit.specs.declared.walk.Lent.{Lent}
-use Rattle.audit.specs.declared.walk.Tested.{Tested}
-use Rattle.audit.specs.declared.node.Node.{Node}
-use Rattle.audit.specs.Audit.{rows_ok, rows_twin, leaf_twin, look_twin, passed_by, node_less, walk_twin, untested_all, tree_twin, free_twin, rest_ok, soundb}
+use Rattle.audit.specs.declared.walk.Path.{Path}
+use Rattle.audit.specs.Audit.{Tested, tested_in, Weighed, weighed, rows_ok, rows_twin, leaf_twin, look_twin, passed_by, node_less, walk_twin, untested_all, tree_twin, free_twin, rest_ok, soundb}
 use Rattle.audit.proofs.RowLaws.{rows_none, rows_some}
 use Rattle.audit.proofs.WalkLaws.{look_far, look_none, look_wide, look_again, look_new, walk_leaf, walk_out, walk_done, walk_unfit, walk_stop, walk_both}
 use Rattle.audit.proofs.AnswerLaws.{sound_rows, sound_count, sound_rest}
@@ -76,18 +75,19 @@ module _ {sigs links nodes : List ℕ} (fits : Fits sigs links nodes) {S L : Lis
         pub node_tested : (m : ℕ) → eqb (bit_at q.width m q.number) 1 ≡ true → None ≡ look_twin (unpacked links nodes) (length sigs) m i
         node_tested m o = sym (look_again _ _ _ _ inside parts.position some low (sym (test m) ∙ o))
 
-        pub node_made : (m w : ℕ) → eqb (bit_at q.width m q.number) 1 ≡ false → w ≡ 2 ^ (q.width - q.number)
-            → Some (record { weight = w; left = l; right = r }) ≡ look_twin (unpacked links nodes) (length sigs) m i
-        node_made m w o e =
-            rw (e ∙ ap₂ (λ (f n : ℕ). 2 ^ (f - n)) (is.0 ∙ width_read) is.1) (look_new _ _ _ _ inside parts.position some low (sym (test m) ∙ o) _ _ parts.left parts.right)
+        pub node_made : (m : ℕ) → eqb (bit_at q.width m q.number) 1 ≡ false
+            → weighed (Some (record { position = q; left = l; right = r })) ≡ look_twin (unpacked links nodes) (length sigs) m i
+        node_made m o =
+            rw (is.0 ∙ width_read, is.1) (look_new _ _ _ _ inside parts.position some low (sym (test m) ∙ o) _ _ parts.left parts.right)
+
+    -- a leaf
+    pub leaf_read : (path : Path) (r u : ℕ) (lent : Lent) {w : Option Lent} → w ≡ leaf_twin S L (tested_in L path) r lent → r ≤ B → w ≡ walk_twin u sigs (unpacked links nodes) (tested_in links path) r lent
+    leaf_read path r u lent e h =
+        e ∙ ap₂ (λ (s l : List ℕ). leaf_twin s l (tested_in l path) r lent) rows.0 rows.1 ∙ sym (leaf_row sigs links nodes fits.rows (tested_in links path) r lent)
+        ∙ sym (walk_leaf sigs U (tested_in links path) r u lent (omega (arith, blocks_read)))
 
     -- a subtree
     module _ (t : Tested) (r u : ℕ) (lent : Lent) where
-      pub leaf_read : {w : Option Lent} → w ≡ leaf_twin S L t r lent → r ≤ B → w ≡ walk_twin u sigs (unpacked links nodes) t r lent
-      leaf_read e h =
-          e ∙ ap₂ (λ (s l : List ℕ). leaf_twin s l t r lent) rows.0 rows.1 ∙ sym (leaf_row sigs links nodes fits.rows t r lent)
-          ∙ sym (walk_leaf sigs U t r u lent (omega (arith, blocks_read)))
-
       module _ (h : B < r) where
         above : length sigs < r
         above = omega (arith, blocks_read)
@@ -96,14 +96,14 @@ module _ {sigs links nodes : List ℕ} (fits : Fits sigs links nodes) {S L : Lis
         ends_read (inl z) = sym (walk_out sigs U t r u lent above z)
         ends_read (inr z) = sym (walk_done sigs U t r u lent above z.1)
 
-        module _ (nu : u ≢ 0) (nn : lent.nodes ≢ 0) {look : Option Node} (looked : look ≡ look_twin (unpacked links nodes) (length sigs) t.mask (r - B)) where
+        module _ (nu : u ≢ 0) (nn : lent.nodes ≢ 0) {look : Option Weighed} (looked : look ≡ look_twin (unpacked links nodes) (length sigs) t.mask (r - B)) where
           node_read : look ≡ look_twin U (length sigs) t.mask (r - length sigs)
           node_read = looked ∙ ap (λ (n : ℕ). look_twin U (length sigs) t.mask (r - n)) blocks_read
 
           pub unfit_read : look ≡ None → None ≡ walk_twin u sigs (unpacked links nodes) t r lent
           unfit_read n = sym (walk_unfit sigs U t r u lent above nu (sym node_read ∙ n))
 
-          module _ {d : Node} (is : look ≡ Some d) {left : Tested} (l : left ≡ passed_by t d.weight 0)
+          module _ {d : Weighed} (is : look ≡ Some d) {left : Tested} (l : left ≡ passed_by t d.weight 0)
               {first : Option Lent} (f : first ≡ walk_twin (u - 1) sigs (unpacked links nodes) left d.left (node_less lent)) where
             left_read : walk_twin (u - 1) sigs U (passed_by t d.weight 0) d.left (node_less lent) ≡ first
             left_read = ap (λ (y : Tested). walk_twin (u - 1) sigs U y d.left (node_less lent)) (sym l) ∙ sym f
@@ -156,8 +156,8 @@ module _ {sigs links nodes : List ℕ} (fits : Fits sigs links nodes) {S L : Lis
     unfolding tree_twin
     none_read lent z = simp (eq-eqb _ _ (sym root_read ∙ z))
 
-    pub tree_read : (lent : Lent) → r ≢ 0 → {F : ℕ} → F ≡ width_of L → {w : Option Lent} → w ≡ walk_twin F sigs (unpacked links nodes) untested_all r lent → w ≡ tree_twin sigs (unpacked links nodes) lent
+    pub tree_read : (lent : Lent) → r ≢ 0 → {F : ℕ} → F ≡ width_of L → {t : Tested} → t ≡ untested_all → {w : Option Lent} → w ≡ walk_twin F sigs (unpacked links nodes) t r lent → w ≡ tree_twin sigs (unpacked links nodes) lent
     unfolding tree_twin
-    tree_read lent n f e =
+    tree_read lent n f h e =
         let ne : root_of U ≢ 0 = λ z. n (root_read ∙ z) in
-        rw (ne_eqb _ _ ne, tree_twin) (e ∙ ap₂ (λ (F r : ℕ). walk_twin F sigs U untested_all r lent) (f ∙ front_read 0 (omega arith)) root_read)
+        rw (ne_eqb _ _ ne, tree_twin) (rw h at e ∙ ap₂ (λ (F r : ℕ). walk_twin F sigs U untested_all r lent) (f ∙ front_read 0 (omega arith)) root_read)

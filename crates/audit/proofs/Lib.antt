@@ -2,6 +2,7 @@
 pub mod RowLaws
 pub mod ChainLaws
 pub mod PathLaws
+pub mod PathWords
 pub mod WalkLaws
 pub mod FreeLaws
 pub mod AnswerLaws

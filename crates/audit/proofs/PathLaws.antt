@@ -14,8 +14,7 @@ use Rattle.model.specs.Signature.{bit_at}
 use Rattle.model.specs.Tree.{Edge, edge, Untested, Agrees}
 use Rattle.model.proofs.Bits.{bit_below}
 use Rattle.signature.proofs.Bits.{bit_of_and, bit_of_or, bit_zero, bit_one_here, bit_one_elsewhere, bit_one_fits, bits_equal}
-use Rattle.audit.specs.declared.walk.Tested.{Tested}
-use Rattle.audit.specs.Audit.{passed_by, untested_all}
+use Rattle.audit.specs.Audit.{Tested, passed_by, untested_all}
 
 -- t stands for the path
 pub record Carried (F : ℕ) (path : List Edge) (t : Tested) : Type 0 where

@@ -2,9 +2,9 @@
 -- are built from the walk, and that nothing is left out follows by counting. On sound tables what is lent suffices, since nothing
 -- stands twice.
 -- Assumes nothing.
-use Prim.Native.Nat.{ℕ, ◌+◌, ◌-◌, ◌≤◌}
+use Prim.Native.Nat.{ℕ, ◌+◌, ◌-◌, ◌*◌, ◌≤◌}
 use native.Mathlib.Omega.{arith}
-use mathlib.Core.Path.{◌≡◌, refl, sym, ◌∙◌}
+use mathlib.Core.Path.{◌≡◌, refl, sym, ◌∙◌, ap, subst}
 use mathlib.Core.Logic.{◌⊎◌, inl, inr, ◌↔◌}
 use mathlib.Core.Bool.{Bool, true, false}
 use mathlib.Core.List.Memᴰ
@@ -13,13 +13,17 @@ use lib.Dec.{eqb}
 use lib.ListN.{length, length-append}
 use borrow.Author.Tests.{eq-eqb, eqb-true}
 use Rattle.std.specs.Prelude.{Option, None, Some}
-use Rattle.model.specs.Tables.{width_of, free_of, count_of, filed_of}
-use Rattle.model.specs.Sound.{nodes_in, blocks_in, filed_up_to, Sound, FitsAt}
+use Rattle.model.specs.Wide.{word_count}
+use Rattle.model.specs.Tables.{blocks_of, signatures_of, width_of, free_of, count_of, filed_of}
+use Rattle.model.specs.Sound.{nodes_in, blocks_in, filed_up_to, Sound, FitsAt, SoundLent}
 use Rattle.model.specs.Questions.{asks_tables, tables_fit, ask, audit_refusal}
 use Rattle.model.specs.Promises.{unsound, AuditPromise}
 use Rattle.model.proofs.Pigeon.{distinct_fits, down_from, down_from_length, down_from_range, down_from_has, down_from_distinct}
 use Rattle.model.proofs.Members.{full}
-use Rattle.tables.proofs.Fits.{fits_of}
+use Rattle.model.proofs.Wide.{signatures_length}
+use Rattle.tables.specs.Fits.{FitsUnpacked}
+use Rattle.model.proofs.Packing.{blocks_told}
+use Rattle.tables.proofs.Fits.{fits_of, true_fits}
 use Rattle.audit.specs.declared.walk.Lent.{Lent}
 use Rattle.audit.specs.Audit.{rows_ok, tree_twin, free_twin, lent_tree, rest_ok, soundb, audit_twin}
 use Rattle.model.proofs.Picks.{no_bool, pick_true}
@@ -105,58 +109,85 @@ sound_yes S L s =
     either i (inl m) = Memᴰ.append_left s.free m
     either i (inr m) = Memᴰ.append_right (nodes_in s.tree) m
 
-module _ (S L : List ℕ) where
+-- of the words as they are lent: what they spell fits, so they are sound where that is
+sound_lent : (sigs words L : List ℕ) → FitsUnpacked sigs words L → soundb sigs L ≡ true → SoundLent words L
+sound_lent sigs words L A e = record {
+  long = A.long ∙ ap (λ (n : ℕ). n * word_count (width_of L)) (sym (blocks_told L (length sigs) A.fits.links_long));
+  sound = subst (λ (s : List ℕ). Sound s L) A.spelt (yes_sound sigs L A.fits e);
+}
+
+lent_sound : (sigs words L : List ℕ) → FitsUnpacked sigs words L → SoundLent words L → soundb sigs L ≡ true
+lent_sound sigs words L A s = sound_yes sigs L (subst (λ (s : List ℕ). Sound s L) (sym A.spelt) s.sound)
+
+module _ (words L : List ℕ) where
+  -- the signatures that the words spell
+  abbrev S : List ℕ
+  S = signatures_of words L
+
+  -- sound tables fit
+  pub sound_fits : SoundLent words L → tables_fit (asks_tables words L) ≡ true
+  sound_fits s =
+      (fits_of words L).1 (record {
+        fits = s.sound.fits;
+        spelt = refl;
+        long = s.long ∙ ap (λ (n : ℕ). n * word_count (width_of L)) (sym (signatures_length (word_count (width_of L)) (blocks_of L) words));
+      })
+
+  fits : tables_fit (asks_tables words L) ≡ true → FitsUnpacked (signatures_of words L) words L
+  fits e = (fits_of words L).0 e
+
   -- what the audit answers
-  pub refused : tables_fit (asks_tables S L) ≡ false → audit_twin S L ≡ 4
+  pub refused : tables_fit (asks_tables words L) ≡ false → audit_twin words L ≡ 4
   unfolding audit_twin
   refused e = simp e
 
-  pub found_sound : tables_fit (asks_tables S L) ≡ true → soundb S L ≡ true → audit_twin S L ≡ 0
+  found_sound : tables_fit (asks_tables words L) ≡ true → soundb S L ≡ true → audit_twin words L ≡ 0
   unfolding audit_twin
   found_sound e f = simp (e, f)
 
-  pub found_unsound : tables_fit (asks_tables S L) ≡ true → soundb S L ≡ false → audit_twin S L ≡ unsound
+  found_unsound : tables_fit (asks_tables words L) ≡ true → soundb S L ≡ false → audit_twin words L ≡ unsound
   unfolding audit_twin
   found_unsound e f = simp (e, f)
 
   -- question 4 is the only one before 11
-  asked : FitsAt (length S) (width_of L) S L → audit_refusal (asks_tables S L) ≡ 0
+  asked : tables_fit (asks_tables words L) ≡ true → audit_refusal (asks_tables words L) ≡ 0
   unfolding audit_refusal ask
-  asked f = rw ((fits_of S L).1 f)
+  asked f = rw f
 
   -- soundness is decided
-  pub decide_sound : Dec (Sound S L)
-  decide_sound = go (tables_fit (asks_tables S L)) refl (soundb S L) refl
+  pub decide_sound : Dec (SoundLent words L)
+  decide_sound = go (tables_fit (asks_tables words L)) refl (soundb S L) refl
     where
-      go : (f : Bool) → tables_fit (asks_tables S L) ≡ f → (s : Bool) → soundb S L ≡ s → Dec (Sound S L)
-      go true e true q = yes (yes_sound S L ((fits_of S L).0 e) q)
-      go true e false q = no (λ x. no_bool (sym q ∙ sound_yes S L x))
-      go false e s q = no (λ x. no_bool (sym e ∙ (fits_of S L).1 x.fits))
+      go : (f : Bool) → tables_fit (asks_tables words L) ≡ f → (s : Bool) → soundb S L ≡ s → Dec (SoundLent words L)
+      go true e true q = yes (sound_lent S words L (fits e) q)
+      go true e false q = no (λ x. no_bool (sym q ∙ sound_yes S L x.sound))
+      go false e s q = no (λ x. no_bool (sym e ∙ sound_fits x))
 
   -- the audit says 0 exactly of sound tables
-  pub audit_sound : (audit_twin S L ≡ 0) ↔ Sound S L
-  audit_sound = (go (tables_fit (asks_tables S L)) refl (soundb S L) refl, λ x. found_sound ((fits_of S L).1 x.fits) (sound_yes S L x))
+  pub audit_sound : (audit_twin words L ≡ 0) ↔ SoundLent words L
+  audit_sound = (go (tables_fit (asks_tables words L)) refl (soundb S L) refl, λ x. found_sound (sound_fits x) (sound_yes S L x.sound))
     where
-      go : (f : Bool) → tables_fit (asks_tables S L) ≡ f → (s : Bool) → soundb S L ≡ s → audit_twin S L ≡ 0 → Sound S L
-      go true e true q z = yes_sound S L ((fits_of S L).0 e) q
+      go : (f : Bool) → tables_fit (asks_tables words L) ≡ f → (s : Bool) → soundb S L ≡ s → audit_twin words L ≡ 0 → SoundLent words L
+      go true e true q z = sound_lent S words L (fits e) q
       go true e false q z = absurd (omega (arith, found_unsound e q))
       go false e s q z = absurd (omega (arith, refused e))
 
   -- question 11 alone, of tables of which question 4 says yes
-  pub told_sound : FitsAt (length S) (width_of L) S L → soundb S L ≡ true → AuditPromise S L 0
-  told_sound f e = record { refused = λ x. absurd (x (asked f)); asked = λ x. inl (refl, yes_sound S L f e) }
+  module _ (sigs : List ℕ) (A : FitsUnpacked sigs words L) where
+    pub told_sound : soundb sigs L ≡ true → AuditPromise words L 0
+    told_sound e = record { refused = λ x. absurd (x (asked (true_fits words L sigs A))); asked = λ x. inl (refl, sound_lent sigs words L A e) }
 
-  pub told_unsound : FitsAt (length S) (width_of L) S L → soundb S L ≡ false → AuditPromise S L unsound
-  told_unsound f e = record { refused = λ x. absurd (x (asked f)); asked = λ x. inr (refl, λ s. no_bool (sym e ∙ sound_yes S L s)) }
+    pub told_unsound : soundb sigs L ≡ false → AuditPromise words L unsound
+    told_unsound e = record { refused = λ x. absurd (x (asked (true_fits words L sigs A))); asked = λ x. inr (refl, λ s. no_bool (sym e ∙ lent_sound sigs words L A s)) }
 
   -- and keeps its promise
-  pub promised : AuditPromise S L (audit_twin S L)
+  pub promised : AuditPromise words L (audit_twin words L)
   unfolding audit_refusal ask
-  promised = go (tables_fit (asks_tables S L)) refl (soundb S L) refl
+  promised = go (tables_fit (asks_tables words L)) refl (soundb S L) refl
     where
-      go : (f : Bool) → tables_fit (asks_tables S L) ≡ f → (s : Bool) → soundb S L ≡ s → AuditPromise S L (audit_twin S L)
+      go : (f : Bool) → tables_fit (asks_tables words L) ≡ f → (s : Bool) → soundb S L ≡ s → AuditPromise words L (audit_twin words L)
       go false e s q =
-          let four : audit_refusal (asks_tables S L) ≡ 4 = rw e in
+          let four : audit_refusal (asks_tables words L) ≡ 4 = rw e in
           record { refused = λ x. refused e ∙ sym four; asked = λ x. absurd (omega arith) }
-      go true e true q = rw (found_sound e q) (told_sound ((fits_of S L).0 e) q)
-      go true e false q = rw (found_unsound e q) (told_unsound ((fits_of S L).0 e) q)
+      go true e true q = rw (found_sound e q) (told_sound S (fits e) q)
+      go true e false q = rw (found_unsound e q) (told_unsound S (fits e) q)

@@ -3,7 +3,7 @@
 use Prim.Native.Nat.{ℕ, zero, suc, ◌+◌, ◌-◌, ◌^◌, ◌≤◌, ◌<◌}
 use native.Mathlib.Decide.{dec_lt, ℕ_discrete}
 use native.Mathlib.Omega.{arith}
-use mathlib.Core.Path.{◌≡◌, refl, sym, ◌∙◌}
+use mathlib.Core.Path.{◌≡◌, refl, sym, ◌∙◌, ap, ap₂}
 use mathlib.Core.Logic.{◌⊎◌, inl, inr, ◌≢◌}
 use mathlib.Core.Bool.{true, false}
 use mathlib.Core.List.{List}
@@ -13,11 +13,10 @@ use lib.ListN.{length}
 use borrow.Author.Tests.{eq-eqb, ne_eqb, lt-ltb, le-ltb, le-leb, lt-leb}
 use Rattle.std.specs.Prelude.{Option, None, Some}
 use Rattle.model.specs.Signature.{bit_at}
-use Rattle.model.specs.Tables.{width_of, position_of, left_of, right_of, signature_of}
+use Rattle.model.specs.Tables.{width_of, next_of, filed_of, position_of, left_of, right_of, signature_of}
 use Rattle.audit.specs.declared.walk.Lent.{Lent}
-use Rattle.audit.specs.declared.walk.Tested.{Tested}
-use Rattle.audit.specs.declared.node.Node.{Node}
-use Rattle.audit.specs.Audit.{chain_twin, leaf_of, leaf_twin, look_twin, passed_by, node_less, sides_twin, node_twin, walk_twin}
+use Rattle.audit.proofs.ChainLaws.{head_none, head_next}
+use Rattle.audit.specs.Audit.{Tested, Weighed, chain_twin, leaf_of, leaf_twin, look_twin, passed_by, node_less, sides_twin, node_twin, walk_twin}
 
 -- a node that may stand below a mask
 pub record NodeIs (L : List ℕ) (B m i : ℕ) : Type 0 where
@@ -80,6 +79,19 @@ module _ (S L : List ℕ) (t : Tested) (r : ℕ) where
   unfolding leaf_twin
   leaf_on lent nz q = rw (ne_eqb r 0 nz, leaf_twin, eq-eqb _ _ q)
 
+  -- the signature s of a leaf on the path: of its head only the filed word is asked, and then the rest of its chain
+  module _ (lent : Lent) (nz : r ≢ 0) {s : ℕ} (at : s ≡ signature_of S r) (q : bit_and s t.mask ≡ t.edges) where
+    agreed : leaf_twin S L t r lent ≡ leaf_of lent (chain_twin lent.blocks S L (signature_of S r) r)
+    agreed = leaf_on lent nz (rw at at q)
+
+    pub leaf_unfit : {f : ℕ} → f ≡ filed_of L r → (lent.blocks ≡ 0) ⊎ ((lent.blocks ≢ 0) × (f ≢ 1)) → None ≡ leaf_twin S L t r lent
+    leaf_unfit e n = sym (agreed ∙ ap (leaf_of lent) (head_none S L r lent.blocks nz (rw e at n)))
+
+    pub leaf_chain : r ≤ length S → lent.blocks ≢ 0 → {f : ℕ} → f ≡ filed_of L r → f ≡ 1 → {n : ℕ} → n ≡ next_of L r → {c : Option ℕ} → c ≡ chain_twin (lent.blocks - 1) S L s n
+        → leaf_of lent c ≡ leaf_twin S L t r lent
+    leaf_chain to nb e f n h =
+        ap (leaf_of lent) (h ∙ ap₂ (λ (x y : ℕ). chain_twin (lent.blocks - 1) S L x y) at n) ∙ sym (agreed ∙ ap (leaf_of lent) (head_next S L r lent.blocks nz to nb (sym e ∙ f)))
+
   pub walk_leaf : (u : ℕ) (lent : Lent) → r ≤ length S → walk_twin u S L t r lent ≡ leaf_twin S L t r lent
   unfolding walk_twin
   walk_leaf zero lent le = simp (le-leb r (length S) le)
@@ -95,7 +107,7 @@ module _ (S L : List ℕ) (t : Tested) (r : ℕ) where
   walk_done zero lent lt q = simp (lt-leb r (length S) lt)
   walk_done (suc u) lent lt q = rw (lt-leb r (length S) lt, walk_twin) (go (look_twin L (length S) t.mask (r - length S)))
     where
-      go : (d : Option Node) → node_twin (walk_twin u S L) t d lent ≡ None
+      go : (d : Option Weighed) → node_twin (walk_twin u S L) t d lent ≡ None
       go None = refl
       go (Some d) = rw (eq-eqb _ _ q)
 
@@ -110,7 +122,7 @@ module _ (S L : List ℕ) (t : Tested) (r : ℕ) where
         go (suc v) nv = rw (lt-leb r (length S) lt, walk_twin, q)
 
     -- a node that may stand here, with a node lent: what the calls on its sides give, it gives
-    module _ (nn : lent.nodes ≢ 0) (d : Node) (q : look_twin L (length S) t.mask (r - length S) ≡ Some d) where
+    module _ (nn : lent.nodes ≢ 0) (d : Weighed) (q : look_twin L (length S) t.mask (r - length S) ≡ Some d) where
       pub walk_node : walk_twin u S L t r lent ≡ sides_twin (walk_twin (u - 1) S L) t d lent
       unfolding walk_twin
       walk_node = go u nu

@@ -15,8 +15,7 @@ use Rattle.model.specs.Tables.{width_of, root_of, position_of, left_of, right_of
 use Rattle.model.specs.Sound.{Shape, tip, fork, Rooted, none, some, Holds, HoldsRoot, nodes, blocks, nodes_in, blocks_in, Placed, PlacedRoot}
 use Rattle.tables.proofs.Trees.{depth, depth_root}
 use Rattle.audit.specs.declared.walk.Lent.{Lent}
-use Rattle.audit.specs.declared.walk.Tested.{Tested}
-use Rattle.audit.specs.Audit.{leaf_of, node_less, walk_twin, untested_all, tree_twin}
+use Rattle.audit.specs.Audit.{Tested, leaf_of, node_less, walk_twin, untested_all, tree_twin}
 use Rattle.audit.proofs.ChainLaws.{From, chain_from, chain_whole}
 use Rattle.audit.proofs.PathLaws.{Carried, carried_root, left_edge, right_edge, carried_edge}
 use Rattle.audit.proofs.WalkLaws.{NodeIs, leaf_on, walk_leaf, walk_fork}

@@ -14,8 +14,7 @@ use Rattle.model.specs.Tree.{Edge, edge, Untested, Agrees}
 use Rattle.model.specs.Tables.{width_of, root_of, filed_of, position_of, left_of, right_of, signature_of}
 use Rattle.model.specs.Sound.{Shape, tip, fork, Rooted, none, some, Holds, HoldsRoot, nodes, blocks, nodes_in, blocks_in, Placed, PlacedRoot}
 use Rattle.audit.specs.declared.walk.Lent.{Lent}
-use Rattle.audit.specs.declared.walk.Tested.{Tested}
-use Rattle.audit.specs.Audit.{chain_twin, leaf_of, leaf_twin, look_twin, then_right, node_less, walk_twin, untested_all, tree_twin}
+use Rattle.audit.specs.Audit.{Tested, chain_twin, leaf_of, leaf_twin, look_twin, then_right, node_less, walk_twin, untested_all, tree_twin}
 use Rattle.audit.proofs.ChainLaws.{no_some, From, from_chain, ChainIs, chain_yes}
 use Rattle.audit.proofs.PathLaws.{Carried, carried_root, left_edge, right_edge, carried_edge}
 use Rattle.audit.proofs.WalkLaws.{NodeIs, look_cases, leaf_zero, leaf_off, leaf_on, walk_leaf, walk_out, walk_done, walk_unfit, walk_fork}

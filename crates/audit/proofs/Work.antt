@@ -12,14 +12,14 @@ use lib.ListN.{length}
 use borrow.Author.Tests.{eqb-true, eqb-false}
 use Rattle.std.specs.Prelude.{Option, None, Some}
 use Rattle.model.specs.Basics.{pick}
-use Rattle.model.specs.Tables.{width_of, root_of, free_of, count_of, next_of, left_of, signature_of}
+use Rattle.model.specs.Tables.{width_of, root_of, free_of, count_of, next_of, left_of, signature_of, blocks_of, signatures_of}
+use Rattle.model.specs.Wide.{word_count}
 use Rattle.model.specs.Questions.{asks_tables, tables_fit}
+use Rattle.model.proofs.Wide.{signatures_length}
 use Rattle.tables.proofs.Counts.{filed_few}
 use Rattle.audit.specs.declared.walk.Lent.{Lent}
-use Rattle.audit.specs.declared.walk.Tested.{Tested}
-use Rattle.audit.specs.declared.node.Node.{Node}
-use Rattle.audit.specs.Audit.{rows_ok, block_ok, chain_twin, leaf_of, leaf_twin, look_twin, passed_by, node_less, then_right, sides_twin, node_twin, walk_twin, untested_all, tree_twin, free_ok, lent_tree}
-use Rattle.audit.specs.Work.{Seen, none, one, plus, chain_seen, leaf_seen, right_seen, sides_seen, node_seen, walk_seen, tree_seen, free_seen, rest_seen, comes_to_tree, tree_work, free_work}
+use Rattle.audit.specs.Audit.{Tested, Weighed, rows_ok, block_ok, chain_twin, leaf_of, leaf_twin, look_twin, passed_by, node_less, then_right, sides_twin, node_twin, walk_twin, untested_all, tree_twin, free_ok, lent_tree}
+use Rattle.audit.specs.Work.{Seen, none, one, plus, chain_seen, leaf_seen, right_seen, sides_seen, node_seen, walk_seen, tree_seen, free_seen, rest_seen, comes_to_tree, tree_work, rest_work, free_work}
 use Rattle.model.proofs.Picks.{pick_true}
 use Rattle.audit.proofs.RowLaws.{rows_yes}
 use Rattle.audit.proofs.ChainLaws.{no_some}
@@ -97,7 +97,7 @@ sides_paid lent n x (Some rest) h look right paid =
     }
 
 module _ (look : Tested → ℕ → Lent → Seen) (walk : Tested → ℕ → Lent → Option Lent) (paid : (t : Tested) (r : ℕ) (lent : Lent) → Paid lent (look t r lent) (walk t r lent)) where
-  node_paid : (t : Tested) (d : Option Node) (lent : Lent) → Paid lent (node_seen look walk t d lent) (node_twin walk t d lent)
+  node_paid : (t : Tested) (d : Option Weighed) (lent : Lent) → Paid lent (node_seen look walk t d lent) (node_twin walk t d lent)
   node_paid t None lent = go (eqb lent.nodes 0) refl
     where
       go : (z : Bool) → eqb lent.nodes 0 ≡ z → Paid lent (pick z none one) None
@@ -155,23 +155,31 @@ rest_paid L B lent x (Some left) h = go (eqb left.blocks 0)
     go true = omega (arith, h.nodes_kept left refl, free_paid L B left.nodes (free_of L))
     go false = omega (arith, h.nodes_lent)
 
--- where the audit comes to the tree, no more blocks are lent than there are
-lent_few : (S L : List ℕ) → comes_to_tree S L ≡ true → count_of L ≤ length S
-unfolding comes_to_tree
-lent_few S L e =
-    let p = pick_true (tables_fit (asks_tables S L)) _ e in
-    let q = pick_true (rows_ok S L (length S)) _ p.1 in
-    omega (arith, eqb-true (count_of L) _ q.1, filed_few L (length S) (λ b x y. (rows_yes S L (length S) q.0 b x y).bit))
+-- the audit of any words
+module _ (words L : List ℕ) where
+  abbrev S : List ℕ
+  S = signatures_of words L
 
--- the audit's work on any words
-pub work : (S L : List ℕ) → ((tree_work S L).nodes + free_work S L ≤ length S - 1) × ((tree_work S L).blocks ≤ length S)
-unfolding tree_work free_work
-work S L = go (comes_to_tree S L) refl
-  where
-    go : (z : Bool) → comes_to_tree S L ≡ z
-        → ((pick z (tree_seen S L (lent_tree S L)) none).nodes + pick z (rest_seen L (length S) (tree_twin S L (lent_tree S L))) 0 ≤ length S - 1)
-        × ((pick z (tree_seen S L (lent_tree S L)) none).blocks ≤ length S)
-    go true e =
-        let h = tree_paid S L (lent_tree S L) in
-        (rest_paid L (length S) (lent_tree S L) _ _ h, omega (arith, h.blocks_lent, lent_few S L e))
-    go false e = (omega arith, omega arith)
+  count : length (signatures_of words L) ≡ blocks_of L
+  count = signatures_length (word_count (width_of L)) (blocks_of L) words
+
+  -- where it comes to the tree, no more blocks are lent than there are
+  lent_few : comes_to_tree words L ≡ true → count_of L ≤ length S
+  unfolding comes_to_tree
+  lent_few e =
+      let p = pick_true (tables_fit (asks_tables words L)) _ e in
+      let q = pick_true (rows_ok S L (length S)) _ p.1 in
+      omega (arith, eqb-true (count_of L) _ q.1, filed_few L (length S) (λ b x y. (rows_yes S L (length S) q.0 b x y).bit))
+
+  -- what it looks at
+  pub work : ((tree_work words L).nodes + free_work words L ≤ blocks_of L - 1) × ((tree_work words L).blocks ≤ blocks_of L)
+  unfolding tree_work free_work
+  work = go (comes_to_tree words L) refl
+    where
+      go : (z : Bool) → comes_to_tree words L ≡ z
+          → ((pick z (tree_seen S L (lent_tree S L)) none).nodes + pick z (rest_work S L) 0 ≤ blocks_of L - 1) × ((pick z (tree_seen S L (lent_tree S L)) none).blocks ≤ blocks_of L)
+      go true e =
+          let h = tree_paid S L (lent_tree S L) in
+          let r = rest_paid L (length S) (lent_tree S L) _ _ h in
+          (omega (arith, r, count), omega (arith, h.blocks_lent, lent_few e, count))
+      go false e = (omega arith, omega arith)

@@ -1,18 +1,18 @@
--- What the audit answers, as functions of the words of the two slices: a definition for each function of the code, step by step.
--- That its yes means Sound, both ways, is proved in proofs/Verdict.antt.
+-- What the audit answers, as functions of the signatures' numbers and of the links: a definition for each function of the code, step by
+-- step. Only the last of them goes by the words as they are lent. That the audit's yes means Sound, both ways, is proved in
+-- proofs/Verdict.antt.
 -- Assumes nothing.
-use Rattle.std.specs.Prelude.{ℕ, zero, suc, ◌-◌, ◌^◌, Bool, true, false, List, Option, None, Some, eqb, leb, ltb, length}
+use Rattle.std.specs.Prelude.{ℕ, zero, suc, ◌-◌, ◌^◌, Bool, true, false, List, Option, None, Some, eqb, leb, ltb, length, take}
 use Rattle.std.specs.Int.Bits.{bit_and, bit_or}
 use Rattle.model.specs.Basics.{pick}
 use Rattle.model.specs.Signature.{bit_at}
-use Rattle.model.specs.Tables.{width_of, root_of, free_of, count_of, next_of, filed_of, position_of, left_of, right_of, signature_of}
+use Rattle.model.specs.Wide.{word_count, number_in}
+use Rattle.model.specs.Tables.{width_of, root_of, free_of, count_of, next_of, filed_of, position_of, left_of, right_of, signature_of, signatures_of}
 use Rattle.model.specs.Sound.{filed_up_to}
 use Rattle.model.specs.Questions.{asks_tables, tables_fit}
 use Rattle.model.specs.Promises.{unsound}
-use Rattle.tables.specs.declared.side.Side.{Side}
-use Rattle.tables.specs.declared.side.Side.TheVariants.{Left, Right}
 use Rattle.audit.specs.declared.walk.Lent.{Lent}
-use Rattle.audit.specs.declared.walk.Tested.{Tested}
+use Rattle.audit.specs.declared.walk.Path.{Path}
 use Rattle.audit.specs.declared.node.Node.{Node}
 
 -- Rows. One with signature s, next block x and filed word f at width F: the signature is narrow; filed is 1, or all three are 0
@@ -39,6 +39,26 @@ chain_twin zero sigs links s b = pick (eqb b 0) (Some 0) None
 chain_twin (suc k) sigs links s b =
     pick (eqb b 0) (Some (suc k)) (pick (block_ok sigs links s b) (chain_twin k sigs links s (next_of links b)) None)
 
+-- The path from the root: the positions tested on it as a mask, and those of them where the right edge was taken
+pub record Tested : Type 0 where
+  pub mask : ℕ
+  pub edges : ℕ
+
+-- as the code has it: the numbers in the first words, as many as a signature has
+abbrev pub tested_in : List ℕ → Path → Tested
+tested_in links path = record { mask = number_in (take (word_count (width_of links)) path.mask); edges = number_in (take (word_count (width_of links)) path.edges) }
+
+-- A node that may stand below a path: the weight of its position, and its two references
+pub record Weighed : Type 0 where
+  pub weight : ℕ
+  pub left : ℕ
+  pub right : ℕ
+
+-- as the code has it, with the position
+abbrev pub weighed : Option Node → Option Weighed
+weighed None = None
+weighed (Some d) = Some (record { weight = 2 ^ (d.position.width - d.position.number); left = d.left; right = d.right })
+
 -- The walk: what a part of the tree leaves of the nodes and blocks lent to it, where it is fit. A leaf leaves what its chain leaves
 abbrev pub leaf_of : Lent → Option ℕ → Option Lent
 leaf_of lent None = None
@@ -51,18 +71,13 @@ leaf_twin sigs links t r lent =
     (pick (eqb (bit_and (signature_of sigs r) t.mask) t.edges) (leaf_of lent (chain_twin lent.blocks sigs links (signature_of sigs r) r)) None)
 
 -- node i of B - 1, with a position 1 to F that is not in the mask m
-unfoldable pub look_twin : List ℕ → ℕ → ℕ → ℕ → Option Node
+unfoldable pub look_twin : List ℕ → ℕ → ℕ → ℕ → Option Weighed
 look_twin links B m i =
     pick (leb B i) None
     (pick (eqb (position_of B links i) 0) None
     (pick (ltb (width_of links) (position_of B links i)) None
     (pick (eqb (bit_at (width_of links) m (position_of B links i)) 1) None
     (Some (record { weight = 2 ^ (width_of links - position_of B links i); left = left_of B links i; right = right_of B links i })))))
-
--- the edge on a side of a position of weight w: 0 for the left, w for the right
-abbrev pub edge_on : Side → ℕ → ℕ
-edge_on Left w = 0
-edge_on Right w = w
 
 -- one edge further, past a position of weight w: x is 0 for the left edge, w for the right
 abbrev pub passed_by : Tested → ℕ → ℕ → Tested
@@ -77,12 +92,12 @@ then_right right None = None
 then_right right (Some left) = right left
 
 -- the two sides of node d below t; `again` visits a side
-abbrev pub sides_twin : (Tested → ℕ → Lent → Option Lent) → Tested → Node → Lent → Option Lent
+abbrev pub sides_twin : (Tested → ℕ → Lent → Option Lent) → Tested → Weighed → Lent → Option Lent
 sides_twin again t d lent =
     then_right (again (passed_by t d.weight d.weight) d.right) (again (passed_by t d.weight 0) d.left (node_less lent))
 
 -- the same where a node is lent and may stand here
-abbrev pub node_twin : (Tested → ℕ → Lent → Option Lent) → Tested → Option Node → Lent → Option Lent
+abbrev pub node_twin : (Tested → ℕ → Lent → Option Lent) → Tested → Option Weighed → Lent → Option Lent
 node_twin again t None lent = None
 node_twin again t (Some d) lent = pick (eqb lent.nodes 0) None (sides_twin again t d lent)
 
@@ -131,6 +146,6 @@ soundb sigs links =
     (pick (eqb (count_of links) (filed_up_to links (length sigs))) (rest_ok links (length sigs) (tree_twin sigs links (lent_tree sigs links))) false)
     false
 
--- the audit: 4 where question 4 says no, 0 where the tables are sound, else 11
+-- the audit of the words as they are lent: 4 where question 4 says no, 0 where the tables are sound, else 11
 unfoldable pub audit_twin : List ℕ → List ℕ → ℕ
-audit_twin sigs links = pick (tables_fit (asks_tables sigs links)) (pick (soundb sigs links) 0 unsound) 4
+audit_twin words links = pick (tables_fit (asks_tables words links)) (pick (soundb (signatures_of words links) links) 0 unsound) 4

@@ -4,13 +4,11 @@
 use Rattle.std.specs.Prelude.{ℕ, zero, suc, ◌+◌, ◌-◌, Bool, false, List, Option, None, Some, eqb, leb, length}
 use Rattle.std.specs.Int.Bits.{bit_and}
 use Rattle.model.specs.Basics.{pick}
-use Rattle.model.specs.Tables.{width_of, root_of, free_of, count_of, next_of, left_of, signature_of}
+use Rattle.model.specs.Tables.{width_of, root_of, free_of, count_of, next_of, left_of, signature_of, signatures_of}
 use Rattle.model.specs.Sound.{filed_up_to}
 use Rattle.model.specs.Questions.{asks_tables, tables_fit}
 use Rattle.audit.specs.declared.walk.Lent.{Lent}
-use Rattle.audit.specs.declared.walk.Tested.{Tested}
-use Rattle.audit.specs.declared.node.Node.{Node}
-use Rattle.audit.specs.Audit.{rows_ok, block_ok, look_twin, passed_by, node_less, walk_twin, untested_all, tree_twin, free_ok, lent_tree}
+use Rattle.audit.specs.Audit.{Tested, Weighed, rows_ok, block_ok, look_twin, passed_by, node_less, walk_twin, untested_all, tree_twin, free_ok, lent_tree}
 
 -- nodes, and blocks on chains
 pub record Seen : Type 0 where
@@ -42,13 +40,13 @@ right_seen look None = none
 right_seen look (Some left) = look left
 
 -- a node's sides: the left, and the right where the left, as `walk` gives it, is fit
-abbrev pub sides_seen : (Tested → ℕ → Lent → Seen) → (Tested → ℕ → Lent → Option Lent) → Tested → Node → Lent → Seen
+abbrev pub sides_seen : (Tested → ℕ → Lent → Seen) → (Tested → ℕ → Lent → Option Lent) → Tested → Weighed → Lent → Seen
 sides_seen look walk t d lent =
     plus (look (passed_by t d.weight 0) d.left (node_less lent))
     (right_seen (look (passed_by t d.weight d.weight) d.right) (walk (passed_by t d.weight 0) d.left (node_less lent)))
 
 -- the node itself is looked at wherever one is lent
-abbrev pub node_seen : (Tested → ℕ → Lent → Seen) → (Tested → ℕ → Lent → Option Lent) → Tested → Option Node → Lent → Seen
+abbrev pub node_seen : (Tested → ℕ → Lent → Seen) → (Tested → ℕ → Lent → Option Lent) → Tested → Option Weighed → Lent → Seen
 node_seen look walk t None lent = pick (eqb lent.nodes 0) none one
 node_seen look walk t (Some d) lent = pick (eqb lent.nodes 0) none (plus one (sides_seen look walk t d lent))
 
@@ -72,13 +70,19 @@ rest_seen links B None = 0
 rest_seen links B (Some left) = pick (eqb left.blocks 0) (free_seen left.nodes links B (free_of links)) 0
 
 -- does the audit come to the tree? Question 4 says yes, the rows are fit, and word 4 counts the filed ones
-unfoldable pub comes_to_tree : List ℕ → List ℕ → Bool
-comes_to_tree sigs links =
-    pick (tables_fit (asks_tables sigs links)) (pick (rows_ok sigs links (length sigs)) (eqb (count_of links) (filed_up_to links (length sigs))) false) false
+abbrev pub comes_by : List ℕ → List ℕ → Bool
+comes_by sigs links = pick (rows_ok sigs links (length sigs)) (eqb (count_of links) (filed_up_to links (length sigs))) false
 
--- what the audit looks at
+unfoldable pub comes_to_tree : List ℕ → List ℕ → Bool
+comes_to_tree words links = pick (tables_fit (asks_tables words links)) (comes_by (signatures_of words links) links) false
+
+-- what the audit looks at, of the words as they are lent
 unfoldable pub tree_work : List ℕ → List ℕ → Seen
-tree_work sigs links = pick (comes_to_tree sigs links) (tree_seen sigs links (lent_tree sigs links)) none
+tree_work words links = pick (comes_to_tree words links) (tree_seen (signatures_of words links) links (lent_tree (signatures_of words links) links)) none
+
+-- after the tree, of B blocks
+abbrev pub rest_work : List ℕ → List ℕ → ℕ
+rest_work sigs links = rest_seen links (length sigs) (tree_twin sigs links (lent_tree sigs links))
 
 unfoldable pub free_work : List ℕ → List ℕ → ℕ
-free_work sigs links = pick (comes_to_tree sigs links) (rest_seen links (length sigs) (tree_twin sigs links (lent_tree sigs links))) 0
+free_work words links = pick (comes_to_tree words links) (rest_work (signatures_of words links) links) 0

@@ -13,7 +13,7 @@ use tables::Form;
 
 // Question 11 alone, of either form.
 pub fn sound<F: Form>(form: &F) -> Result<(), Refusal>
-    ensures { AuditPromise (F.signatures form.now) (unpacked (F.links form.now) (F.nodes form.now)) (answer_of result) }
+    ensures { AuditPromise (F.words form.now) (unpacked (F.links form.now) (F.nodes form.now)) (answer_of result) }
 {
     if is_sound(form) {
         Ok(())

@@ -1,12 +1,14 @@
 // The walk from the root down, which calls itself on each side. It ends on any words: positions untested fall at each call, and the
-// nodes and blocks that it may look at are lent to it.
-ghost use Rattle.std.specs.Prelude.{◌≡◌, ◌≤◌, length};
+// nodes and blocks that it may look at are lent to it. So is the path so far: a walk sets its position there, and puts back what it set.
+ghost use Rattle.std.specs.Prelude.{◌≡◌, ◌≤◌, length, IfSome};
 ghost use Rattle.model.specs.Packed.{unpacked};
-ghost use Rattle.audit.specs.Audit.{leaf_twin, edge_on, passed_by, walk_twin, tree_twin};
+ghost use Rattle.tables.specs.Rows.{numbers};
+ghost use Rattle.audit.specs.Audit.{tested_in, leaf_twin, walk_twin, tree_twin};
 
 use super::chain::follow;
 use super::node::look;
-use tables::{Form, Rows, Side};
+use signature::MOST_WORDS;
+use tables::{Form, Rows};
 
 // The nodes, and the blocks on chains, that a walk may look at.
 #[derive(Clone, Copy)]
@@ -15,78 +17,78 @@ pub struct Lent {
     pub blocks: u32,
 }
 
-// The positions tested on the path so far as a mask, and those of them where the right edge was taken.
-#[derive(Clone, Copy, Default)]
-pub struct Tested {
-    pub mask: u64,
-    pub edges: u64,
+// The path from the root: the positions tested on it as a mask, and those of them where the right edge was taken. Of each array the words
+// in front are used, as many as a signature has. (They are arrays behind one reference: a walk that is lent the two as slices takes a
+// tenth longer.)
+#[derive(Drop)]
+pub struct Path {
+    pub mask: [u64; MOST_WORDS],
+    pub edges: [u64; MOST_WORDS],
 }
 
-impl Tested {
-    // One edge further, on the side of a position of this weight.
-    fn passed(self, weight: u64, side: Side) -> Tested
-        ensures { result ≡ passed_by self weight (edge_on side weight) }
-    {
-        let edge = match side {
-            Side::Left => 0,
-            Side::Right => weight,
-        };
-        Tested {
-            mask: self.mask | weight,
-            edges: self.edges | edge,
-        }
-    }
-}
-
-// A leaf: its signature agrees with every edge on the path, and its chain is fit. What is left of that lent.
+// A leaf: its signature agrees with every edge on the path, and its chain is fit. What is left of that lent. (The head has its own
+// signature, so that of it the chain asks only whether it is filed.)
 #[tactic(auto, unfolding(crate::specs::Audit::leaf_twin))]
-fn leaf(rows: &Rows, tested: Tested, reference: u32, lent: Lent) -> Option<Lent>
-    requires { reference ≤ length rows.now.signatures.now }
-    ensures { result ≡ leaf_twin rows.now.signatures.now rows.now.links.now tested reference lent }
+fn leaf(rows: &Rows, path: &Path, reference: u32, lent: Lent) -> Option<Lent>
+    requires { reference ≤ length (numbers rows.now) }
+    ensures { result ≡ leaf_twin (numbers rows.now) rows.now.links.now (tested_in rows.now.links.now path.now) reference lent }
 {
     if reference == 0 {
         return None;
     }
-    let signature = rows.signature_of(reference as usize);
-    if signature & tested.mask != tested.edges {
+    let head = reference as usize;
+    let signature = rows.signature_of(head);
+    if !signature::agrees(
+        signature,
+        &path.mask[..rows.words],
+        &path.edges[..rows.words],
+    ) {
         return None;
     }
-    let blocks = follow(rows, signature, reference, lent.blocks)?;
+    if lent.blocks == 0 || rows.filed_of(head) != 1 {
+        return None;
+    }
+    let blocks = follow(rows, signature, rows.next_of(head), lent.blocks - 1)?;
     Some(Lent { blocks, ..lent })
 }
 
-// The subtree at a reference, below the tested positions. What is left of that lent, where the subtree is fit. (What the reference leads to is
-// told by one comparison with the number of blocks, and in `leaf` by one with 0.)
+// The subtree at a reference, below the path. What is left of that lent, where the subtree is fit: then the path is as it was, and else
+// nobody goes on. (What the reference leads to is told by one comparison with the number of blocks, and in `leaf` by one with 0.)
 fn walk<F: Form>(
     form: &F,
-    tested: Tested,
+    path: &mut Path,
     reference: u32,
     untested: u32,
     lent: Lent,
 ) -> Option<Lent>
-    ensures { result ≡ walk_twin untested (F.signatures form.now) (unpacked (F.links form.now) (F.nodes form.now)) tested reference lent }
+    ensures fit { result ≡ walk_twin untested (F.signatures form.now) (unpacked (F.links form.now) (F.nodes form.now)) (tested_in (F.links form.now) path.old) reference lent }
+    ensures back { IfSome result (λ left. path.new ≡ path.old) }
 {
     let rows = form.rows();
     let blocks = rows.blocks();
     let at = reference as usize;
     if at <= blocks {
-        return leaf(&rows, tested, reference, lent);
+        return leaf(&rows, path, reference, lent);
     }
     if untested == 0 || lent.nodes == 0 {
         return None;
     }
-    let node = look(form, tested.mask, at - blocks)?;
+    let words = rows.words;
+    let node = look(form, &path.mask[..words], at - blocks)?;
     let below = Lent {
         nodes: lent.nodes - 1,
         ..lent
     };
-    let left = tested.passed(node.weight, Side::Left);
-    let rest = walk(form, left, node.left, untested - 1, below)?;
-    let right = tested.passed(node.weight, Side::Right);
-    walk(form, right, node.right, untested - 1, rest)
+    let tested = node.position.set(&mut path.mask[..words]);
+    let rest = walk(form, path, node.left, untested - 1, below)?;
+    let taken = node.position.set(&mut path.edges[..words]);
+    let left = walk(form, path, node.right, untested - 1, rest)?;
+    node.position.put_back(&mut path.mask[..words], tested);
+    node.position.put_back(&mut path.edges[..words], taken);
+    Some(left)
 }
 
-// The tree from the root.
+// The tree from the root, where no position is tested.
 pub(crate) fn whole_tree<F: Form>(form: &F, lent: Lent) -> Option<Lent>
     ensures { result ≡ tree_twin (F.signatures form.now) (unpacked (F.links form.now) (F.nodes form.now)) lent }
 {
@@ -95,5 +97,9 @@ pub(crate) fn whole_tree<F: Form>(form: &F, lent: Lent) -> Option<Lent>
     if root == 0 {
         return Some(lent);
     }
-    walk(form, Tested::default(), root, rows.width(), lent)
+    let mut path = Path {
+        mask: [0; MOST_WORDS],
+        edges: [0; MOST_WORDS],
+    };
+    walk(form, &mut path, root, rows.width(), lent)
 }

@@ -9,12 +9,15 @@ use mathlib.Core.List.{List, ◌∷◌, ◌++◌}
 use lib.ListN.{length, get_or, replicate, length-append, length-replicate, get_or-replicate, get_or-append}
 use lib.Pow.{pow_pos}
 use Rattle.model.specs.Limits.{widest, most_blocks}
+use Rattle.model.specs.Wide.{word_count, signatures_in}
 use Rattle.model.specs.Tree.{nothing}
-use Rattle.model.specs.Tables.{word, next_at, filed_at, position_at, signature_of, width_of, root_of, free_of, tree_of}
-use Rattle.model.specs.Sound.{none, filed_up_to, FitsAt, SoundAt, Sound}
-use Rattle.model.specs.Clear.{free_from, free_nodes, clear_links, clear_signatures}
+use Rattle.model.specs.Tables.{word, next_at, filed_at, position_at, blocks_of, signatures_of, signature_of, width_of, root_of, free_of, tree_of}
+use Rattle.model.specs.Sound.{none, filed_up_to, FitsAt, SoundAt, Sound, SoundLent}
+use Rattle.model.specs.Clear.{free_from, free_nodes, clear_links, clear_signatures, clear_words}
 use Rattle.model.specs.Basics.{up_from}
 use Rattle.model.proofs.Keep.{up_from_has}
+use Rattle.model.proofs.Wide.{signatures_zeros}
+use Rattle.model.proofs.Packing.{blocks_told}
 use Rattle.tables.proofs.Trees.{tree_from_none}
 use Rattle.tables.proofs.Spelled.{Spells, spells_end, free_length, free_chain}
 use Rattle.tables.proofs.Entries.{entry_unfiled}
@@ -96,3 +99,16 @@ module _ (B F : ℕ) (b1 : 1 ≤ B) (b2 : B ≤ most_blocks) (f1 : 1 ≤ F) (f2 
 
   pub clear_ledger : ledger_of (clear_signatures B) L ≡ empty_ledger B F
   clear_ledger = rw (fits_clear.sigs_long, fits_clear.width_word) (ap (λ (es : List Entry). record { width = F; entries = es }) (no_entries (clear_signatures B) L B 1 (λ c h k. unfiled_row c h (omega arith))))
+
+  -- the same of the tables as they are lent: the words spell the signatures
+  told : blocks_of L ≡ B
+  told = blocks_told L B fits_clear.links_long
+
+  pub clear_spelt : signatures_of (clear_words B F) L ≡ clear_signatures B
+  clear_spelt = ap₂ (λ (w n : ℕ). signatures_in (word_count w) n (clear_words B F)) fits_clear.width_word told ∙ signatures_zeros (word_count F) B
+
+  pub clear_lent : SoundLent (clear_words B F) L
+  clear_lent = record {
+    long = length-replicate (B * word_count F) 0 ∙ ap₂ (λ (n w : ℕ). n * word_count w) (sym told) (sym fits_clear.width_word);
+    sound = rw clear_spelt clear_sound;
+  }

@@ -8,6 +8,7 @@ use mathlib.Core.List.Memᴰ
 use mathlib.Core.List.{List, [], ◌∷◌, ◌++◌, Memᴰ}
 use lib.ListN.{length, get_or, drop, length-drop}
 use lib.Seq.{get_or-drop}
+use Rattle.model.specs.Limits.{widest, most_blocks}
 use Rattle.model.specs.Tables.{links_of, position_at, left_at, right_at, position_of, left_of, right_of, free_of, root_of}
 use Rattle.model.specs.Tree.{Edge, edge}
 use Rattle.model.specs.Sound.{Shape, tip, fork, Rooted, none, some, Holds, HoldsRoot, Placed, PlacedRoot, nodes, nodes_in, FreeChain, SoundAt, Sound}
@@ -15,7 +16,7 @@ use Rattle.model.specs.Packed.{node_word, closed, rows_of, unpacked, packed_link
 use Rattle.model.proofs.Packing.{Small, unpacked_packed}
 use Rattle.convert.specs.Fitting.{NodeFits, NodesFit}
 
-module _ (B F : ℕ) (sigs L : List ℕ) (b1 : 1 ≤ B) (b2 : B ≤ 65535) (f2 : F ≤ 64) where
+module _ (B F : ℕ) (sigs L : List ℕ) (b1 : 1 ≤ B) (b2 : B ≤ most_blocks) (f2 : F ≤ widest) where
   -- a reference to a shape
   below : (r : ℕ) (t : Shape) → Holds B L r t → r < 2 ^ 17
   below r (tip h cs) q = let a = q.0 in let b = q.2 in omega arith

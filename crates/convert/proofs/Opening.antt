@@ -10,12 +10,10 @@ use lib.Seq.{take-suc}
 use borrow.Rule.Slice.PartMut.{put_mid}
 use Rattle.std.proofs.lemmas.Slice.{take-put_mid}
 use mathlib.Core.Logic.{◌≢◌}
-use mathlib.Core.Bool.{Bool, true, false, ◌&&◌}
-use lib.Dec.{eqb}
-use Rattle.model.specs.Tables.{links_of}
+use mathlib.Core.Bool.{true, ◌&&◌}
 use Rattle.model.specs.Promises.{AuditPromise}
-use Rattle.model.specs.Questions.{blocks_fit, ask, asks_tables, tables_fit}
-use Rattle.model.specs.PackedPromises.{packed_fit, PackedAudit, UnpackPromise}
+use Rattle.model.specs.Questions.{ask, asks_tables, tables_fit}
+use Rattle.model.specs.PackedPromises.{packed_fit, unpack_fits, PackedAudit, UnpackPromise}
 use Rattle.model.proofs.Asking.{true_false, both, ask_zero}
 use Rattle.model.specs.Packed.{position_in, left_in, right_in, opened, unpacked}
 
@@ -36,33 +34,24 @@ open_more nodes words three i k h room e et =
     ∙ rw (add-one, take-suc nodes i 0 h) refl
 
 -- what an audit of tables that are read of the slices promises of these
-pub answered_packed : {sigs links nodes S L N : List ℕ} {answer : ℕ} → (S ≡ sigs) × (L ≡ links) × (N ≡ nodes)
-    → 0 ≡ ask 4 (packed_fit sigs links nodes && tables_fit (asks_tables sigs (unpacked links nodes))) 0 → AuditPromise S (unpacked L N) answer → PackedAudit sigs links nodes answer
+pub answered_packed : {words links nodes V L N : List ℕ} {answer : ℕ} → (V ≡ words) × (L ≡ links) × (N ≡ nodes)
+    → 0 ≡ ask 4 (packed_fit links nodes && tables_fit (asks_tables words (unpacked links nodes))) 0 → AuditPromise V (unpacked L N) answer → PackedAudit words links nodes answer
 answered_packed same asked told =
     let yes = (ask_zero 3 _ 0 (sym asked)).0 in
     record { unfit = λ f. true_false (both yes).0 f; asked = λ _. rw (← same.0, ← same.1, ← same.2) told }
 
-left_no : (t u : Bool) → u ≡ true → (t && u) ≡ false → t ≡ false
-left_no true u e f = true_false e f
-left_no false u e f = refl
-
 -- the promise
-module _ (sigs links nodes old : List ℕ) where
-  -- the target's length
-  abbrev target : Bool
-  target = blocks_fit (length sigs) && eqb (length old) (links_of (length sigs))
+module _ (words links nodes old : List ℕ) (y : unpack_fits links nodes old ≡ true) (answer : ℕ) (A : PackedAudit words links nodes answer) where
+  told : AuditPromise words (unpacked links nodes) answer
+  told = A.asked (both {t = packed_fit links nodes} y).0
 
-  module _ (t : target ≡ true) (answer : ℕ) (A : PackedAudit sigs links nodes answer) where
-    unfit : packed_fit sigs links nodes && eqb (length old) (links_of (length sigs)) ≡ false → packed_fit sigs links nodes ≡ false
-    unfit f = left_no _ _ (both t).1 f
+  pub refuses_tables : answer ≢ 0 → UnpackPromise words links nodes old answer old
+  refuses_tables n = record { unfit = λ f. true_false y f; asked = λ _. (told, λ _. refl); done = λ z. absurd (n z) }
 
-    pub refuses_tables : answer ≢ 0 → UnpackPromise sigs links nodes old answer old
-    refuses_tables n = record { unfit = λ f. ((A.unfit (unfit f)).0, refl); asked = λ f. (A.asked (both f).0, λ _. refl); done = λ z. absurd (n z) }
-
-    pub unpacks : answer ≡ 0 → (rows words : List ℕ) → rows ≡ links → words ≡ opened nodes → UnpackPromise sigs links nodes old answer (rows ++ words)
-    unfolding unpacked
-    unpacks z rows words er ew = record {
-      unfit = λ f. absurd (omega (arith, (A.unfit (unfit f)).0));
-      asked = λ f. (A.asked (both f).0, λ n. absurd (n z));
-      done = λ _. ap₂ (λ (x y : List ℕ). x ++ y) er ew;
-    }
+  pub unpacks : answer ≡ 0 → (rows opens : List ℕ) → rows ≡ links → opens ≡ opened nodes → UnpackPromise words links nodes old answer (rows ++ opens)
+  unfolding unpacked
+  unpacks z rows opens er ew = record {
+    unfit = λ f. true_false y f;
+    asked = λ _. (told, λ n. absurd (n z));
+    done = λ _. ap₂ (λ (x y : List ℕ). x ++ y) er ew;
+  }

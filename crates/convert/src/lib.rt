@@ -4,8 +4,10 @@
 
 ghost use Rattle.std.specs.Prelude.{◌≡◌, ◌+◌, ◌*◌, ◌≤◌, length};
 ghost use Rattle.answers.specs.Answers.{answer_of};
+ghost use Rattle.model.specs.Limits.{most_blocks};
 ghost use Rattle.model.specs.Packed.{opened, packed_nodes};
 ghost use Rattle.model.specs.PackedPromises.{PackPromise, UnpackPromise};
+ghost use Rattle.tables.specs.Rows.{numbers};
 ghost use Rattle.convert.specs.Fitting.{NodesFit};
 
 use answers::Refusal;
@@ -15,7 +17,7 @@ use tables::{Form, Tables, Unpacked, front};
 // The three words of each node. They are written by index: of what was written through `chunks_exact_mut` a proof knows the length alone.
 #[tactic(auto, unfolding(model::specs::Packed::opened), using(crate::proofs::Opening::open_more))]
 fn open_nodes(nodes: &[u64], words: &mut [u32])
-    requires { (length words.old ≡ 3 * length nodes.now) × (length nodes.now ≤ 65535) }
+    requires { (length words.old ≡ 3 * length nodes.now) × (length nodes.now ≤ most_blocks) }
     ensures { words.new ≡ opened nodes.now }
 {
     for (i, node) in nodes.iter().enumerate() {
@@ -37,7 +39,7 @@ pub fn unpack(
 ) -> Result<(), Refusal>
     ensures { UnpackPromise signatures.now links.now nodes.now old.old (answer_of result) old.new }
 {
-    if !front::unpacked_lengths(signatures.len(), old.len()) {
+    if !front::unpack_fits(links.len(), nodes.len(), old.len()) {
         return Err(Refusal::Unfit);
     }
     let tables = Tables::of(signatures, links, nodes)?;
@@ -50,9 +52,9 @@ pub fn unpack(
 
 // One word for each node.
 fn close_nodes(tables: &Unpacked, nodes: &mut [u64])
-    requires length { length nodes.old + 1 ≡ length tables.now.rows.signatures.now }
-    requires nodes_fit { NodesFit (length tables.now.rows.signatures.now) tables.now.rows.links.now }
-    ensures { nodes.new ≡ packed_nodes (length tables.now.rows.signatures.now) tables.now.rows.links.now }
+    requires length { length nodes.old + 1 ≡ length (numbers tables.now.rows) }
+    requires nodes_fit { NodesFit (length (numbers tables.now.rows)) tables.now.rows.links.now }
+    ensures { nodes.new ≡ packed_nodes (length (numbers tables.now.rows)) tables.now.rows.links.now }
 {
     for node in 1..tables.rows.blocks() {
         set_node(nodes, node, tables.node(node));
@@ -68,7 +70,7 @@ pub fn pack(
 ) -> Result<(), Refusal>
     ensures { PackPromise signatures.now old.now links.old nodes.old (answer_of result) links.new nodes.new }
 {
-    if !front::lengths_fit(signatures.len(), links.len(), nodes.len()) {
+    if !front::pack_fits(old.len(), links.len(), nodes.len()) {
         return Err(Refusal::Unfit);
     }
     let tables = Unpacked::of(signatures, old)?;

@@ -7,14 +7,17 @@ use native.Mathlib.Omega.{arith}
 use mathlib.Core.Path.{◌≡◌, refl, sym, ◌∙◌, subst}
 use mathlib.Core.Logic.{◌≢◌}
 use mathlib.Core.List.{List}
-use lib.ListN.{length, length-set}
+use lib.ListN.{length, set, length-set}
 use Rattle.model.specs.Signature.{first_difference}
 use Rattle.model.specs.Tree.{insert}
-use Rattle.model.specs.Tables.{root_at, width_of, root_of, filed_of, signature_of, tree_of}
-use Rattle.model.specs.Sound.{Shape, Rooted, none, some, HoldsRoot, Sound}
-use Rattle.model.specs.File.{file_signatures, file_links}
+use Rattle.model.specs.Wide.{word_count, number_in}
+use Rattle.model.specs.Tables.{blocks_of, signatures_of, root_at, width_of, root_of, filed_of, signature_of, tree_of}
+use Rattle.model.specs.Sound.{Shape, Rooted, none, some, HoldsRoot, Sound, SoundLent}
+use Rattle.model.specs.File.{file_words, file_signatures, file_links}
 use Rattle.model.specs.Questions.{asks_tables, file_refusal, file}
 use Rattle.model.specs.Ledger.{pair, ledger_of, entered}
+use Rattle.model.proofs.Wide.{signatures_length}
+use Rattle.tables.proofs.Numbers.{set_spelt, set_lent}
 use Rattle.tables.proofs.Walks.{spot_leaf}
 use Rattle.tables.proofs.After.{signature_other}
 use Rattle.tables.proofs.Entries.{entry_pair, ledger_set}
@@ -26,8 +29,11 @@ use Rattle.file.proofs.Splits.{split_good}
 use Rattle.file.proofs.Cases.{links_first, links_join, links_split, at_leaf, AtLeaf, spare}
 
 -- what no question refuses can be filed
-pub fileable : {sigs links : List ℕ} (S : Sound sigs links) (b s : ℕ) → file_refusal (asks_tables sigs links) b s ≡ 0 → Fileable S b s
-fileable {sigs} {links} S b s z = let p = passed sigs links b s z in record { from = p.from; to = p.to; unfiled = p.unfiled; small = p.small }
+pub fileable : (words links : List ℕ) (S : Sound (signatures_of words links) links) (b : ℕ) (s : List ℕ) → file_refusal (asks_tables words links) b s ≡ 0 → Fileable S b (number_in s)
+fileable words links S b s z =
+    let p = passed words links b s z in
+    let n = signatures_length (word_count (width_of links)) (blocks_of links) words in
+    record { from = p.from; to = omega (arith, p.to, n); unfiled = p.unfiled; small = p.small }
 
 module _ {sigs links : List ℕ} (S : Sound sigs links) (b s : ℕ) (Q : Fileable S b s) where
   abbrev B : ℕ
@@ -74,6 +80,30 @@ module _ {sigs links : List ℕ} (S : Sound sigs links) (b s : ℕ) (Q : Fileabl
       → (filed_of (file_links sigs links b s) c ≡ filed_of links c) × (signature_of (file_signatures sigs b s) c ≡ signature_of sigs c)
   file_others c n h h' = (filed.rows.filed_same c n h h', signature_other sigs b s Q.from c h n)
 
-  pub file_ledger : ledger_of (file_signatures sigs b s) (file_links sigs links b s) ≡ entered (ledger_of sigs links) (file b s)
-  file_ledger = ledger_set sigs links (file_signatures sigs b s) (file_links sigs links b s) b (pair s) Q.from Q.to (length-set sigs (b - 1) s) filed.sound.fits.width_word
+  ledger_filed : ledger_of (file_signatures sigs b s) (file_links sigs links b s) ≡ record { width = width_of links; entries = set (ledger_of sigs links).entries (b - 1) (pair s) }
+  ledger_filed = ledger_set sigs links (file_signatures sigs b s) (file_links sigs links b s) b (pair s) Q.from Q.to (length-set sigs (b - 1) s) filed.sound.fits.width_word
       (entry_pair (file_signatures sigs b s) (file_links sigs links b s) b s (λ z. omega (arith, file_own.0)) file_own.1) file_others
+
+  -- the ledger after a call whose words are those of s
+  pub file_ledger : (ws : List ℕ) → number_in ws ≡ s → ledger_of (file_signatures sigs b s) (file_links sigs links b s) ≡ entered (ledger_of sigs links) (file b ws)
+  file_ledger ws e = rw e ledger_filed
+
+-- the same of the tables as they are lent: the words spell the signatures, and are sound
+module _ (words links : List ℕ) (S : SoundLent words links) (b : ℕ) (s : List ℕ) (none : file_refusal (asks_tables words links) b s ≡ 0) where
+  abbrev after : List ℕ
+  after = file_links (signatures_of words links) links b (number_in s)
+
+  Q : Fileable S.sound b (number_in s)
+  Q = fileable words links S.sound b s none
+
+  long : length s ≡ word_count (width_of links)
+  long = (passed words links b s none).long
+
+  same : length after ≡ length links
+  same = (filed S.sound b (number_in s) Q).sound.fits.links_long ∙ sym S.sound.fits.links_long
+
+  pub file_spelt : signatures_of (file_words words links b s) after ≡ file_signatures (signatures_of words links) b (number_in s)
+  file_spelt = set_spelt words links after b s S Q.from Q.to long same (filed S.sound b (number_in s) Q).sound.fits.width_word
+
+  pub file_lent : SoundLent (file_words words links b s) after
+  file_lent = set_lent words links after b s S Q.from Q.to long same (filed S.sound b (number_in s) Q).sound.fits.width_word (file_sound S.sound b (number_in s) Q)

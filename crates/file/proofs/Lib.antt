@@ -7,4 +7,3 @@ pub mod Filed
 pub mod Asked
 mod Planned
 mod Promised
-pub mod Packed

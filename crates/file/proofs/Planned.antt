@@ -6,9 +6,11 @@ use native.Mathlib.Omega.{arith}
 use mathlib.Core.Path.{◌≡◌, refl, sym, ◌∙◌, ap, subst}
 use mathlib.Core.Logic.{◌≢◌, ◌↔◌}
 use mathlib.Core.Bool.{Bool, true, false, ◌&&◌}
+use mathlib.Core.List.{List}
 use lib.Dec.{eqb, leb, ltb}
 use borrow.Author.Tests.{ltb-true, ltb-false}
 use Rattle.std.specs.Prelude.{Option, None, Some}
+use Rattle.model.specs.Wide.{word_count, number_in}
 use Rattle.model.specs.Signature.{bit_at, first_difference}
 use Rattle.model.specs.Tables.{word, root_at, width_of, root_of, free_of, count_of, filed_of, signature_of}
 use Rattle.model.specs.Sound.{Sound}
@@ -26,7 +28,7 @@ use Rattle.tables.specs.Walk.{Ends, HeldBy}
 use Rattle.tables.specs.Walked.{parent_at, parent_node}
 use Rattle.tables.proofs.Edges.{side_of_bit}
 use Rattle.tables.proofs.Walks.{spot_leaf, sound_fits}
-use Rattle.tables.specs.Held.{blocks_held, held}
+use Rattle.tables.specs.Held.{signatures_held, blocks_held, held}
 use Rattle.file.specs.Asking.{Passed}
 use Rattle.file.specs.Plan.{SplitPlan, Plans}
 use Rattle.file.specs.declared.plan.Plan.{Plan}
@@ -46,6 +48,10 @@ some_place : (B : ℕ) (place : Place) → address_of B place ≢ 0
 some_place B Root = omega arith
 some_place B (Below node side) = omega arith
 
+-- W, by the width as it is read
+pub words_read : (t : Tables) (F : ℕ) → F ≡ width_of t.rows.links.now → word_count (width_of (held t)) ≡ word_count F
+words_read t F e = ap word_count (sym (front t 0 (omega arith)) ∙ sym e)
+
 -- the split that the code makes: f is the first free node, and F the width, as they are read
 module _ (t : Tables) (s : ℕ) (place : Place) (h a f F : ℕ) (is_f : f ≡ free_of t.rows.links.now) (is_F : F ≡ width_of t.rows.links.now) where
   free : f ≡ free_of (held t)
@@ -61,10 +67,8 @@ module _ (t : Tables) (s : ℕ) (place : Place) (h a f F : ℕ) (is_f : f ≡ fr
   too_large z p from to small = let g = ltb-false a (2 ^ F) z in absurd (omega (arith, rw (← width) at small))
 
   module _ (differ : (s < 2 ^ width_of (held t)) × (a ≢ s)) (small : ltb a (2 ^ F) ≡ true) where
-    pub differs : (1 ≤ F) × (F ≤ 64) × (s < 2 ^ F) × (a < 2 ^ F) × (s ≢ a)
-    differs =
-        let w = t.fits.fits in
-        (omega (arith, width, w.width_from), omega (arith, width, w.width_to), rw (← width) at differ.0, ltb-true a (2 ^ F) small, λ e. differ.1 (sym e))
+    pub differs : (s < 2 ^ F) × (a < 2 ^ F) × (s ≢ a)
+    differs = (rw (← width) at differ.0, ltb-true a (2 ^ F) small, λ e. differ.1 (sym e))
 
     module _ (d : ℕ) (is_d : d ≡ first_difference F s a) where
       -- side leads on the signatures that have the bit of s at position d
@@ -74,12 +78,15 @@ module _ (t : Tables) (s : ℕ) (place : Place) (h a f F : ℕ) (is_f : f ≡ fr
             rw (← width, ← free, ← is_d) (side, side_of_bit F s d set side is_set is_side, refl)
 
 -- the plan of a filing that no question refuses
-module _ (t : Tables) (b s : ℕ) (A : Passed t.rows.signatures.now (held t) b s) where
+module _ (t : Tables) (b : ℕ) (ws : List ℕ) (A : Passed (blocks_held t) (held t) b ws) where
+  abbrev s : ℕ
+  s = number_in ws
+
   abbrev sound : Type 0
-  sound = Sound t.rows.signatures.now (held t)
+  sound = Sound (signatures_held t) (held t)
 
   abbrev PlansTo : Option Plan → Type 0
-  PlansTo = Plans t.rows.signatures.now (held t) b s
+  PlansTo = Plans (signatures_held t) (held t) b s
 
   asks : (S : sound) → filed_of (held t) b ≡ 0 → Fileable S b s
   asks S u = record { from = A.from; to = A.to; unfiled = u; small = A.small }
@@ -90,7 +97,7 @@ module _ (t : Tables) (b s : ℕ) (A : Passed t.rows.signatures.now (held t) b s
 
   pub plan_first : root_of t.rows.links.now ≡ 0 → PlansTo (Some First)
   plan_first e S u =
-      (refl, sym (links_first t.rows.signatures.now (held t) b s root_at (root_of (held t)) (sym (spot_leaf (blocks_held t) (width_of (held t)) (held t) s (width_of (held t)) root_at (omega (arith, front t 2 (omega arith))))) refl (sym (front t 2 (omega arith)) ∙ e)))
+      (refl, sym (links_first (signatures_held t) (held t) b s root_at (root_of (held t)) (sym (spot_leaf (blocks_held t) (width_of (held t)) (held t) s (width_of (held t)) root_at (omega (arith, front t 2 (omega arith))))) refl (sym (front t 2 (omega arith)) ∙ e)))
 
   -- an unfit node on the walk
   pub plan_lost : (a : ℕ) → Ends (blocks_held t) (width_of t.rows.links.now) (held t) s 0 a → PlansTo None
@@ -117,17 +124,17 @@ module _ (t : Tables) (b s : ℕ) (A : Passed t.rows.signatures.now (held t) b s
     pub plan_no_leaf : (leb 1 w.reference && leb w.reference (blocks_held t)) ≡ false → PlansTo None
     plan_no_leaf z S u = let l = leaf_there S u in not_in_range w.reference (blocks_held t) z l.0 l.1
 
-    module _ (leaf : (leb 1 w.reference && leb w.reference (blocks_held t)) ≡ true) (a : ℕ) (is_a : a ≡ signature_of t.rows.signatures.now w.reference) where
+    module _ (leaf : (leb 1 w.reference && leb w.reference (blocks_held t)) ≡ true) (a : ℕ) (is_a : a ≡ signature_of (signatures_held t) w.reference) where
       some_leaf : w.reference ≢ 0
       some_leaf = let l = (in_range w.reference (blocks_held t) leaf).0 in omega arith
 
       pub plan_join : a ≡ s → PlansTo (Some (Join w.reference))
-      plan_join e S u = (refl, sym (links_join t.rows.signatures.now (held t) b s (link t w) w.reference at_spot here some_leaf (sym is_a ∙ e)))
+      plan_join e S u = (refl, sym (links_join (signatures_held t) (held t) b s (link t w) w.reference at_spot here some_leaf (sym is_a ∙ e)))
 
       split_links : a ≢ s → (e : ℕ) → e ≡ bit_at (width_of (held t)) s (first_difference (width_of (held t)) s a)
-          → stores (held t) (split_stores (blocks_held t) (held t) b (link t w) w.reference (free_of (held t)) (first_difference (width_of (held t)) s a) e) ≡ file_links t.rows.signatures.now (held t) b s
+          → stores (held t) (split_stores (blocks_held t) (held t) b (link t w) w.reference (free_of (held t)) (first_difference (width_of (held t)) s a) e) ≡ file_links (signatures_held t) (held t) b s
       split_links n e is_e =
-          sym (links_split t.rows.signatures.now (held t) b s (link t w) w.reference at_spot here some_leaf (λ x. n (is_a ∙ x)) (first_difference (width_of (held t)) s a) e (ap (first_difference (width_of (held t)) s) is_a) is_e)
+          sym (links_split (signatures_held t) (held t) b s (link t w) w.reference at_spot here some_leaf (λ x. n (is_a ∙ x)) (first_difference (width_of (held t)) s a) e (ap (first_difference (width_of (held t)) s) is_a) is_e)
 
       pub plan_split : a ≢ s → (p : Option Plan) → SplitPlan (blocks_held t) (width_of (held t)) (held t) s w.place w.reference a p → PlansTo p
       plan_split n p P S u =

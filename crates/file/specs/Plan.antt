@@ -1,6 +1,7 @@
 -- A filing's plan: when its stores stay inside the slices, what they are, and that on sound tables they are the definition's.
 -- Assumes nothing.
 use Rattle.std.specs.Prelude.{ℕ, ◌^◌, ◌≤◌, ◌<◌, ◌≡◌, Bool, true, false, List, [], Option, None, Some, length}
+use Rattle.model.specs.Limits.{widest}
 use Rattle.model.specs.Signature.{bit_at, first_difference}
 use Rattle.model.specs.Tables.{free_of, count_of, filed_of}
 use Rattle.model.specs.Sound.{Sound}
@@ -18,7 +19,7 @@ abbrev pub PlanFits : ℕ → List ℕ → Option Plan → Type 0
 PlanFits B links None = Unit {0}
 PlanFits B links (Some First) = count_of links < B
 PlanFits B links (Some (Join h)) = (count_of links < B) × (1 ≤ h) × (h ≤ B)
-PlanFits B links (Some (Split n)) = (count_of links < B) × IsPlace B n.place × (1 ≤ n.node) × (n.node < B) × (n.leaf ≤ B) × (n.position ≤ 64)
+PlanFits B links (Some (Split n)) = (count_of links < B) × IsPlace B n.place × (1 ≤ n.node) × (n.node < B) × (n.leaf ≤ B) × (n.position ≤ widest)
 
 -- there is a plan
 abbrev pub is_plan : Option Plan → Bool

@@ -16,14 +16,14 @@ use tables::TablesMut;
 // with its plan and what carries it out: else each store is followed by reading the slices from the struct again, and a filing takes a tenth
 // longer.
 #[inline(always)]
-pub fn file(tables: &mut TablesMut, block: u32, signature: u64) -> Result<(), Refusal>
-    ensures promise { PackedFile tables.old.signatures.now tables.old.links.now tables.old.nodes.now block signature (answer_of result) tables.new.signatures.now tables.new.links.now tables.new.nodes.now }
+pub fn file(tables: &mut TablesMut, block: u32, signature: &[u64]) -> Result<(), Refusal>
+    ensures promise { PackedFile tables.old.signatures.now tables.old.links.now tables.old.nodes.now block signature.now (answer_of result) tables.new.signatures.now tables.new.links.now tables.new.nodes.now }
     ensures loans { SameLoans tables.old tables.new }
 {
     let read = tables.read()?;
     question::ask(&read, block, signature)?;
     let plan = plan::plan_filing(&read, block, signature).ok_or(Refusal::Unsound)?;
     store::carry_out(tables, block, plan);
-    tables.signatures[block as usize - 1] = signature;
+    tables.set_signature(block as usize, signature);
     Ok(())
 }

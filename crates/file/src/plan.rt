@@ -1,11 +1,13 @@
 // What a filing stores, read off the tables and checked before any store: so 11 changes nothing.
-ghost use Rattle.std.specs.Prelude.{◌^◌, ◌≤◌, ◌<◌, ◌≡◌};
+ghost use Rattle.std.specs.Prelude.{◌^◌, ◌≤◌, ◌<◌, ◌≡◌, length};
+ghost use Rattle.model.specs.Wide.{word_count, number_in};
 ghost use Rattle.model.specs.Tables.{width_of, count_of};
 ghost use Rattle.tables.specs.Places.{IsPlace};
-ghost use Rattle.tables.specs.Held.{blocks_held, held};
+ghost use Rattle.tables.specs.Held.{signatures_held, blocks_held, held};
 ghost use Rattle.file.specs.Asking.{Passed};
 ghost use Rattle.file.specs.Plan.{PlanFits, SplitPlan, Plans};
 
+use signature::Positions;
 use tables::{Place, Side, Tables, front};
 
 // The first leaf; the block after the head of a chain; or a new node.
@@ -28,10 +30,17 @@ pub struct NewNode {
 
 // The first free node in the place of a leaf whose signature is another one. None for unfit tables.
 #[inline(always)]
-fn plan_split(tables: &Tables, signature: u64, place: Place, leaf: u32, other: u64) -> Option<Plan>
-    requires differ { (signature < 2 ^ width_of (held tables.now)) × (other ≡ signature → ⊥) }
+fn plan_split(
+    tables: &Tables,
+    signature: &[u64],
+    place: Place,
+    leaf: u32,
+    other: &[u64],
+) -> Option<Plan>
+    requires long { (length signature.now ≡ word_count (width_of (held tables.now))) × (length other.now ≡ word_count (width_of (held tables.now))) }
+    requires differ { (number_in signature.now < 2 ^ width_of (held tables.now)) × (number_in other.now ≡ number_in signature.now → ⊥) }
     requires inside { (count_of (held tables.now) < blocks_held tables.now) × IsPlace (blocks_held tables.now) place × (leaf ≤ blocks_held tables.now) }
-    ensures splits { SplitPlan (blocks_held tables.now) (width_of (held tables.now)) (held tables.now) signature place leaf other result }
+    ensures splits { SplitPlan (blocks_held tables.now) (width_of (held tables.now)) (held tables.now) (number_in signature.now) place leaf (number_in other.now) result }
     ensures within { PlanFits (blocks_held tables.now) (held tables.now) result }
 {
     let rows = tables.rows;
@@ -42,7 +51,7 @@ fn plan_split(tables: &Tables, signature: u64, place: Place, leaf: u32, other: u
         return None;
     }
     let position = signature::first_difference(signature, other, width);
-    let side = position.is_set(signature).into();
+    let side = signature.is_set(position).into();
     Some(Plan::Split(NewNode {
         node,
         place,
@@ -54,9 +63,9 @@ fn plan_split(tables: &Tables, signature: u64, place: Place, leaf: u32, other: u
 
 // The plan of a filing that no question refuses. None for unfit tables.
 #[inline(always)]
-pub fn plan_filing(tables: &Tables, block: u32, signature: u64) -> Option<Plan>
-    requires { Passed tables.now.rows.signatures.now (held tables.now) block signature }
-    ensures plans { Plans tables.now.rows.signatures.now (held tables.now) block signature result }
+pub fn plan_filing(tables: &Tables, block: u32, signature: &[u64]) -> Option<Plan>
+    requires { Passed (blocks_held tables.now) (held tables.now) block signature.now }
+    ensures plans { Plans (signatures_held tables.now) (held tables.now) block (number_in signature.now) result }
     ensures within { PlanFits (blocks_held tables.now) (held tables.now) result }
 {
     let rows = tables.rows;
@@ -73,7 +82,7 @@ pub fn plan_filing(tables: &Tables, block: u32, signature: u64) -> Option<Plan>
         return None;
     }
     let other = rows.signature_of(leaf as usize);
-    if other == signature {
+    if signature::same(other, signature) {
         return Some(Plan::Join { head: leaf });
     }
     plan_split(tables, signature, walked.place, leaf, other)

@@ -1,6 +1,7 @@
 // The stores of a filing, in the definition's order: one function for each kind of plan. What each asks stands in one definition: no type
 // of lent tables can hold it, since a ghost field beside a `&mut` is not covered by the check.
 ghost use Rattle.std.specs.Prelude.{◌≤◌, ◌<◌, [], ◌∷◌, Some};
+ghost use Rattle.model.specs.Limits.{widest};
 ghost use Rattle.model.specs.Tables.{next_at};
 ghost use Rattle.model.specs.Stores.{◌↤◌, stores};
 ghost use Rattle.model.specs.File.{filing_stores, first_stores, chain_stores, split_stores};
@@ -44,10 +45,12 @@ fn store_join(tables: &mut TablesMut, block: u32, head: u32)
     tables.set_next(head as usize, block);
 }
 
-// The first free node takes the leaf's place: the block goes to its side, the leaf to the other.
+// The first free node takes the leaf's place: the block goes to its side, the leaf to the other. Inlined, so that the plan's parts stay in
+// registers.
+#[inline(always)]
 fn store_split(tables: &mut TablesMut, block: u32, new: NewNode)
     requires can_file { CanFile tables.old block }
-    requires inside { IsPlace (blocks_in tables.old) new.place × (1 ≤ new.node) × (new.node < blocks_in tables.old) × (new.leaf ≤ blocks_in tables.old) × (new.position ≤ 64) }
+    requires inside { IsPlace (blocks_in tables.old) new.place × (1 ≤ new.node) × (new.node < blocks_in tables.old) × (new.leaf ≤ blocks_in tables.old) × (new.position ≤ widest) }
     ensures { Becomes tables.old tables.new (stores (links_in tables.old) (split_stores (blocks_in tables.old) (links_in tables.old) block (address_of (blocks_in tables.old) new.place) new.leaf new.node new.position (side_number new.side))) }
 {
     let NewNode {
@@ -57,7 +60,7 @@ fn store_split(tables: &mut TablesMut, block: u32, new: NewNode)
         position,
         side,
     } = new;
-    let blocks = tables.signatures.len() as u32;
+    let blocks = tables.blocks() as u32;
     let free = tables.left_of(node as usize);
     store_row(tables, block, 0);
     tables.set_free(free);

@@ -2,34 +2,29 @@
 -- needed.
 -- Assumes nothing.
 use Prim.Native.Nat.{ℕ}
-use native.Mathlib.Omega.{arith}
-use mathlib.Core.Path.{refl, sym, ap, subst}
+use mathlib.Core.Path.{sym, subst}
 use mathlib.Core.List.{List, [], ◌∷◌}
-use lib.ListN.{replicate}
-use Rattle.model.specs.Tree.{Tree, nothing}
-use Rattle.model.specs.Tables.{links_of}
-use Rattle.model.specs.Questions.{Work, Reading, refused, carries}
-use Rattle.model.specs.Ledger.{Ledger, empty_ledger, Report}
-use Rattle.model.specs.Lists.{Memory, Gives, GivesReading, reading}
+use Rattle.model.specs.Tree.{Tree}
+use Rattle.model.specs.Questions.{asks_tables, Reading}
+use Rattle.model.specs.Ledger.{Ledger}
+use Rattle.model.specs.Lists.{Step, lent_slice, lent_to, words_after, reading_on, MayLend, GivesReading}
+use Rattle.model.specs.Claim.{Begins, Demand, reading_by}
 use Rattle.lists.specs.Stepped.{Stepped}
-use Rattle.model.specs.Claim.{Begins, Demand, sound, zeros}
-use Rattle.lists.proofs.Steps.{carried, stays}
-use Rattle.lists.proofs.OnSound.{sound_step}
-use Rattle.lists.proofs.OnZeros.{zero_step}
+use Rattle.lists.proofs.Readings.{reading_number}
+use Rattle.lists.proofs.Steps.{begins_reading}
+use Rattle.lists.proofs.Carried.{step}
 
--- any request, from any beginning
-pub step : (sigs links : List ℕ) (L : Ledger) (t : Tree) → Begins sigs links L t → (r : Reading) (W : Work) (o : Report) (M' : Memory)
-    → GivesReading r (record { signatures = sigs; links = links; work = W }) o M' → Stepped L t r (record { signatures = sigs; links = links; work = W }) o M'
-step sigs links L t b (refused n) W o M' g = stays L t (record { signatures = sigs; links = links; work = W }) o M' (refused n) b g.0 g.1 (λ q i z. omega (arith, ap carried i)) refl refl
-step sigs links L t (sound S) (carries c) W o M' g = sound_step c (record { signatures = sigs; links = links; work = W }) o M' g S
-step sigs links L t (zeros B h k e f) (carries c) W o M' g =
-    subst (λ (x : List ℕ). Stepped (empty_ledger B 0) nothing (carries c) (record { signatures = sigs; links = x; work = W }) o M') (sym f)
-    (subst (λ (x : List ℕ). Stepped (empty_ledger B 0) nothing (carries c) (record { signatures = x; links = replicate (links_of B) 0; work = W }) o M') (sym e)
-    (zero_step B h k c W o M' (subst (λ (x : List ℕ). Gives c (record { signatures = replicate B 0; links = x; work = W }) o M') f (subst (λ (x : List ℕ). Gives c (record { signatures = x; links = links; work = W }) o M') e g))))
+-- a step, read by the ledger as by the tables
+pub stepped : (words links : List ℕ) (L : Ledger) (t : Tree) → Begins words links L t → (s : Step)
+    → GivesReading (reading_on words links s) (lent_to words links s) s.report s.left → MayLend s.slice (reading_on words links s)
+    → Stepped L t (reading_by L words s) (lent_to words links s) s.report s.left (words_after words s)
+stepped words links L t b s g m =
+    subst (λ (r : Reading). Stepped L t r (lent_to words links s) s.report s.left (words_after words s)) (sym (begins_reading words links L t b (lent_slice words s.slice) s.request))
+    (step words links L t b s.slice s.lent s.report s.left (reading_on words links s) m (reading_number (asks_tables (lent_slice words s.slice) links) s.request) g)
 
 -- THE THEOREM: demand 3, with no hypothesis.
 pub demand : Demand
-demand sigs links L t b [] run = tt
-demand sigs links L t b (s ∷ ss) run =
-    let x = step sigs links L t b (reading s.request) s.lent s.report s.left run.0 in
-    (x.0, demand s.left.signatures s.left.links _ _ x.1 ss run.1)
+demand words links L t b [] run = tt
+demand words links L t b (s ∷ ss) run =
+    let x = stepped words links L t b s run.0 run.1 in
+    (x.0, demand (words_after words s) s.left.links _ _ x.1 ss run.2)

@@ -5,8 +5,10 @@ use Prim.Native.Nat.{ℕ}
 use native.Mathlib.Omega.{arith}
 use mathlib.Core.Path.{◌≡◌, refl, ◌∙◌, ap, subst}
 use mathlib.Core.Logic.{⊎_elim, ◌≢◌}
-use mathlib.Core.List.{List}
-use Rattle.model.specs.Sound.{Sound}
+use mathlib.Core.List.{List, []}
+use Rattle.model.specs.Wide.{number_in}
+use Rattle.model.specs.Tables.{signatures_of}
+use Rattle.model.specs.Sound.{SoundLent}
 use Rattle.model.specs.Questions.{Work, Call, clear, file, withdraw, rebuild, search, audit}
 use Rattle.model.specs.Ledger.{Report, bare, done_by}
 use Rattle.model.specs.Lists.{Memory, TablesOnly, Gives}
@@ -14,7 +16,8 @@ use Rattle.model.specs.Claim.{Searched}
 use Rattle.lists.proofs.Searching.{search_report_is, search_bounds}
 use Rattle.lists.specs.Moves.{ledger_in, tree_in, refusal_in, Moves, Done}
 use Rattle.lists.specs.Stepped.{Refused}
-use Rattle.lists.proofs.Moves.{clear_moves, file_moves, withdraw_moves, rebuild_moves}
+use Rattle.lists.proofs.Readings.{is_search, is_clear}
+use Rattle.lists.proofs.Moves.{file_moves, withdraw_moves, rebuild_moves}
 
 -- lent slices that are the same, one by one
 work_same : (W W' : Work) → W'.scratch ≡ W.scratch → W'.marks ≡ W.marks → W'.output ≡ W.output → W' ≡ W
@@ -41,15 +44,6 @@ refused_gives (search q) M o M' g n =
     (x.0, memory_same M M' g.1.signatures g.1.links (work_same M.work M'.work g.1.scratch x.1 x.2))
 refused_gives audit M o M' g n = (g.1 ∙ ap bare (g.0.refused n), g.2)
 
--- one for a search, none for another call
-abbrev pub is_search : Call → ℕ
-is_search (clear F) = 0
-is_search (file b s) = 0
-is_search (withdraw b) = 0
-is_search rebuild = 0
-is_search (search q) = 1
-is_search audit = 0
-
 -- a call that is no search and answers 0
 plainly : (c : Call) (M : Memory) (o : Report) (M' : Memory) → is_search c ≡ 0 → bare 0 ≡ done_by (ledger_in M) (tree_in M) c
     → o ≡ bare o.answer → o.answer ≡ 0 → (sigs⁺ links⁺ : List ℕ) → M'.signatures ≡ sigs⁺ → M'.links ≡ links⁺ → Moves M.signatures M.links c sigs⁺ links⁺ → Done c M o M'
@@ -60,36 +54,34 @@ plainly c M o M' z d e a sigs⁺ links⁺ f g m = record {
 }
 
 -- the query of a search
-abbrev query : Call → ℕ
-query (clear F) = 0
-query (file b s) = 0
-query (withdraw b) = 0
-query rebuild = 0
+abbrev query : Call → List ℕ
+query (clear F) = []
+query (file b s) = []
+query (withdraw b) = []
+query rebuild = []
 query (search q) = q
-query audit = 0
+query audit = []
 
--- what none refuses is carried out on sound tables; these never get 11
-pub done_gives : (c : Call) (M : Memory) (o : Report) (M' : Memory) → Gives c M o M' → refusal_in M c ≡ 0 → Sound M.signatures M.links → Done c M o M'
-done_gives (clear F) M o M' g e S =
-    let x = g.0.done e in
-    plainly (clear F) M o M' refl refl g.1.counts x.0 _ _ x.1 x.2 (clear_moves M.signatures M.links S F e)
-done_gives (file b s) M o M' g e S =
+-- what none refuses is carried out on sound tables; these never get 11. (A clear needs nothing of the tables: see Steps.)
+pub done_gives : (c : Call) → is_clear c ≡ 0 → (M : Memory) (o : Report) (M' : Memory) → Gives c M o M' → refusal_in M c ≡ 0 → SoundLent M.signatures M.links → Done c M o M'
+done_gives (clear F) i M o M' g e S = absurd (omega arith)
+done_gives (file b s) i M o M' g e S =
     let x = g.0.done e S in
     plainly (file b s) M o M' refl refl g.1.counts x.0 _ _ x.1 x.2 (file_moves M.signatures M.links S b s e)
-done_gives (withdraw b) M o M' g e S =
+done_gives (withdraw b) i M o M' g e S =
     let x = g.0.done e S in
     plainly (withdraw b) M o M' refl refl g.1.counts x.0 _ _ x.1 x.2 (withdraw_moves M.signatures M.links S b e)
-done_gives rebuild M o M' g e S =
-    ⊎_elim (λ x. plainly rebuild M o M' refl refl g.1.counts x.zero _ _ g.1.signatures x.words (rebuild_moves M.signatures M.links S))
+done_gives rebuild i M o M' g e S =
+    ⊎_elim (λ x. plainly rebuild M o M' refl refl g.1.counts x.zero _ _ g.1.signatures x.made (rebuild_moves M.signatures M.links S))
     (λ x. absurd (x.0 S)) (g.0.asked e)
-done_gives (search q) M o M' g e S =
+done_gives (search q) i M o M' g e S =
     let x = g.0.done e S in
     record {
-      report = x.0 ∙ search_report_is M.signatures M.links S q;
+      report = x.0 ∙ search_report_is (signatures_of M.signatures M.links) M.links S.sound q;
       moves = rw (g.1.signatures, g.1.links) (record { sound = S; ledger = refl; tree = refl });
-      searched = λ p h. subst (λ (y : ℕ). Searched (ledger_in M) (tree_in M) y M.work o M'.work) (ap query h)
-          (search_bounds M.signatures M.links S q M.work M'.work o x.0 x.1 x.2);
+      searched = λ p h. subst (λ (y : List ℕ). Searched (ledger_in M) (tree_in M) (number_in y) M.work o M'.work) (ap query h)
+          (search_bounds (signatures_of M.signatures M.links) M.links S.sound q M.work M'.work o x.0 x.1 x.2);
     }
-done_gives audit M o M' g e S =
+done_gives audit i M o M' g e S =
     ⊎_elim (λ x. plainly audit M o M' refl refl g.1 x.0 _ _ (ap (λ (y : Memory). y.signatures) g.2) (ap (λ (y : Memory). y.links) g.2) (record { sound = S; ledger = refl; tree = refl }))
     (λ x. absurd (x.1 S)) (g.0.asked e)

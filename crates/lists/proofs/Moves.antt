@@ -1,57 +1,43 @@
--- The four calls that change tables move sound ones as the ledger and the plain tree say: each by the theorems of its own crate. A
+-- Filing, withdrawing and rebuilding move sound tables as the ledger and the plain tree say: each by the theorems of its own crate. A
 -- filing of a stored signature leaves the tree, as `insert` does; a withdrawal takes the leaf away when no other pair is left.
 -- Assumes nothing.
-use Prim.Native.Nat.{ℕ, ◌≤◌}
+use Prim.Native.Nat.{ℕ, ◌-◌, ◌*◌, ◌/◌, ◌≤◌}
 use native.Mathlib.Omega.{arith}
-use mathlib.Core.Path.{◌≡◌, refl, sym, ◌∙◌, ap, subst}
+use mathlib.Core.Path.{◌≡◌, refl, sym, ◌∙◌, ap, ap₂, subst}
 use mathlib.Core.Logic.{◌≢◌}
 use mathlib.Core.Bool.{Bool, true, false}
 use mathlib.Core.List.{List}
 use lib.ListN.{length}
 use Rattle.model.specs.Tree.{insert, remove}
-use Rattle.model.specs.Tables.{width_of, filed_of, signature_of, tree_of}
-use Rattle.model.specs.Sound.{Sound}
-use Rattle.model.specs.Clear.{clear_signatures, clear_links}
-use Rattle.model.specs.File.{file_signatures, file_links}
-use Rattle.model.specs.Withdraw.{withdraw_signatures, withdraw_links}
+use Rattle.model.specs.Wide.{word_count, number_in, signatures_in}
+use Rattle.model.specs.Tables.{blocks_of, signatures_of, width_of, filed_of, signature_of, tree_of}
+use Rattle.model.specs.Sound.{Sound, SoundLent}
+use Rattle.model.specs.File.{file_words, file_links}
+use Rattle.model.specs.Withdraw.{withdraw_words, withdraw_signatures, withdraw_links}
 use Rattle.model.specs.Rebuild.{rebuild_links}
-use Rattle.model.specs.Questions.{asks_tables, clear_refusal, file_refusal, withdraw_refusal, clear, file, withdraw, rebuild}
-use Rattle.model.specs.Ledger.{pair, entry_of, is_stored, empty_ledger, ledger_of, lost, grown}
+use Rattle.model.specs.Questions.{asks_tables, file_refusal, withdraw_refusal, file, withdraw, rebuild}
+use Rattle.model.specs.Ledger.{pair, entry_of, is_stored, ledger_of, lost, grown}
 use Rattle.model.proofs.Trees.{insert_stored}
-use Rattle.tables.proofs.Entries.{entry_pair, entries_length, entries_of}
+use Rattle.tables.proofs.Entries.{entry_pair, entries_of}
 use Rattle.tables.proofs.Holders.{stored_holder, holder_stored}
 use Rattle.tables.proofs.Stored.{sound_proper, stored_leaf}
-use Rattle.clear.proofs.Cleared.{clear_sound, clear_tree, clear_ledger}
-use Rattle.file.proofs.Filed.{fileable, file_sound, file_tree, file_ledger}
+use Rattle.file.proofs.Filed.{fileable, file_tree, file_ledger, file_spelt, file_lent}
 use Rattle.withdraw.proofs.Withdrawing.{Another}
-use Rattle.withdraw.proofs.Withdrawn.{withdraw_sound, withdraw_stays, withdraw_loses, withdraw_lengths, withdraw_own, withdraw_others, withdraw_ledger}
-use Rattle.rebuild.proofs.Kept.{rebuild_sound, rebuild_stored, rebuild_ledger}
+use Rattle.withdraw.proofs.Withdrawn.{withdraw_stays, withdraw_loses, withdraw_lengths, withdraw_own, withdraw_others, withdraw_ledger, withdraw_spelt, withdraw_lent}
+use Rattle.rebuild.proofs.Kept.{rebuild_unchanged, rebuild_sound, rebuild_stored, rebuild_ledger}
 use Rattle.lists.specs.Moves.{Moves}
-use Rattle.lists.proofs.Asking.{clear_fits, withdraw_fits}
+use Rattle.lists.proofs.Asking.{withdraw_fits}
+
+-- ---- of the numbers
 
 module _ (sigs links : List ℕ) (S : Sound sigs links) where
-  pub clear_moves : (F : ℕ) → clear_refusal (asks_tables sigs links) F ≡ 0 → Moves sigs links (clear F) (clear_signatures (length sigs)) (clear_links (length sigs) F)
-  clear_moves F e =
-      let f = clear_fits sigs links F e in
-      let b = S.fits.blocks_from in
-      let k = S.fits.blocks_to in
-      record {
-        sound = clear_sound (length sigs) F b k f.0 f.1;
-        ledger = clear_ledger (length sigs) F b k f.0 f.1 ∙ ap (λ (n : ℕ). empty_ledger n F) (sym (entries_length sigs links (length sigs) 1));
-        tree = clear_tree (length sigs) F b k f.0 f.1;
-      }
-
-  pub file_moves : (b s : ℕ) → file_refusal (asks_tables sigs links) b s ≡ 0 → Moves sigs links (file b s) (file_signatures sigs b s) (file_links sigs links b s)
-  file_moves b s e =
-      let Q = fileable S b s e in
-      record { sound = file_sound S b s Q; ledger = file_ledger S b s Q; tree = file_tree S b s Q ∙ go (is_stored s (ledger_of sigs links)) refl }
+  -- filing a stored signature leaves the tree, as `insert` does
+  inserted : (b : ℕ) (s : List ℕ) → insert (width_of links) (number_in s) (tree_of sigs links) ≡ grown (ledger_of sigs links) (tree_of sigs links) (file b s)
+  inserted b s = go (is_stored (number_in s) (ledger_of sigs links)) refl
     where
-      go : (t : Bool) → is_stored s (ledger_of sigs links) ≡ t → insert (width_of links) s (tree_of sigs links) ≡ grown (ledger_of sigs links) (tree_of sigs links) (file b s)
-      go true h = rw (h, grown) (insert_stored (width_of links) (tree_of sigs links) (sound_proper sigs links S) s (stored_leaf sigs links S s h))
+      go : (t : Bool) → is_stored (number_in s) (ledger_of sigs links) ≡ t → insert (width_of links) (number_in s) (tree_of sigs links) ≡ grown (ledger_of sigs links) (tree_of sigs links) (file b s)
+      go true h = rw (h, grown) (insert_stored (width_of links) (tree_of sigs links) (sound_proper sigs links S) (number_in s) (stored_leaf sigs links S (number_in s) h))
       go false h = rw (h, grown) refl
-
-  pub rebuild_moves : Moves sigs links rebuild sigs (rebuild_links sigs links)
-  rebuild_moves = record { sound = rebuild_sound sigs links S; ledger = rebuild_ledger sigs links S; tree = rebuild_stored sigs links S }
 
   module _ (b : ℕ) (b1 : 1 ≤ b) (bB : b ≤ length sigs) (filed : filed_of links b ≡ 1) where
     abbrev s : ℕ
@@ -96,8 +82,54 @@ module _ (sigs links : List ℕ) (S : Sound sigs links) where
     its_entry : entry_of (ledger_of sigs links).entries b ≡ pair s
     its_entry = entries_of sigs links (length sigs) b b1 bB ∙ entry_pair sigs links b s (omega arith) refl
 
-    filed_moves : Moves sigs links (withdraw b) sigs' links'
-    filed_moves = record { sound = withdraw_sound S b b1 bB filed; ledger = withdraw_ledger S b b1 bB filed; tree = rw (its_entry, ← withdraw_ledger S b b1 bB filed) withdraw_tree }
+    withdrawn : tree_of sigs' links' ≡ grown (ledger_of sigs links) (tree_of sigs links) (withdraw b)
+    withdrawn = rw (its_entry, ← withdraw_ledger S b b1 bB filed) withdraw_tree
 
-  pub withdraw_moves : (b : ℕ) → withdraw_refusal (asks_tables sigs links) b ≡ 0 → Moves sigs links (withdraw b) (withdraw_signatures sigs b) (withdraw_links sigs links b)
-  withdraw_moves b e = let f = withdraw_fits sigs links b e in filed_moves b f.0 f.1 (omega (arith, f.2, S.filed_bit b f.0 f.1))
+-- ---- of the tables as they are lent
+
+module _ (words links : List ℕ) (S : SoundLent words links) where
+  abbrev spelt : List ℕ
+  spelt = signatures_of words links
+
+  pub file_moves : (b : ℕ) (s : List ℕ) → file_refusal (asks_tables words links) b s ≡ 0
+      → Moves words links (file b s) (file_words words links b s) (file_links (signatures_of words links) links b (number_in s))
+  file_moves b s e =
+      let Q = fileable words links S.sound b s e in
+      let x = file_spelt words links S b s e in
+      let after : List ℕ = file_links spelt links b (number_in s) in
+      record {
+        sound = file_lent words links S b s e;
+        ledger = ap (λ (l : List ℕ). ledger_of l after) x ∙ file_ledger S.sound b (number_in s) Q s refl;
+        tree = ap (λ (l : List ℕ). tree_of l after) x ∙ file_tree S.sound b (number_in s) Q ∙ inserted spelt links S.sound b s;
+      }
+
+  pub withdraw_moves : (b : ℕ) → withdraw_refusal (asks_tables words links) b ≡ 0
+      → Moves words links (withdraw b) (withdraw_words words links b) (withdraw_links (signatures_of words links) links b)
+  withdraw_moves b e =
+      let f = withdraw_fits words links b e in
+      let one : filed_of links b ≡ 1 = omega (arith, f.2, S.sound.filed_bit b f.0 f.1) in
+      let x = withdraw_spelt words links S b f.0 f.1 one in
+      let after : List ℕ = withdraw_links spelt links b in
+      record {
+        sound = withdraw_lent words links S b f.0 f.1 one;
+        ledger = ap (λ (l : List ℕ). ledger_of l after) x ∙ withdraw_ledger S.sound b f.0 f.1 one;
+        tree = ap (λ (l : List ℕ). tree_of l after) x ∙ withdrawn spelt links S.sound b f.0 f.1 one;
+      }
+
+  -- a rebuild leaves the words, and the links' length and width
+  pub rebuild_blocks : blocks_of (rebuild_links (signatures_of words links) links) ≡ blocks_of links
+  rebuild_blocks = ap (λ (k : ℕ). (k - 2) / 5) (rebuild_unchanged spelt links S.sound).long
+
+  pub rebuild_moves : Moves words links rebuild words (rebuild_links (signatures_of words links) links)
+  rebuild_moves =
+      let wide = (rebuild_unchanged spelt links S.sound).width in
+      let after : List ℕ = rebuild_links spelt links in
+      let x : signatures_of words after ≡ spelt = ap₂ (λ (w k : ℕ). signatures_in (word_count w) k words) wide rebuild_blocks in
+      record {
+        sound = record {
+          long = S.long ∙ ap₂ (λ (k w : ℕ). k * word_count w) (sym rebuild_blocks) (sym wide);
+          sound = rw x (rebuild_sound spelt links S.sound);
+        };
+        ledger = ap (λ (l : List ℕ). ledger_of l after) x ∙ rebuild_ledger spelt links S.sound;
+        tree = ap (λ (l : List ℕ). tree_of l after) x ∙ rebuild_stored spelt links S.sound;
+      }

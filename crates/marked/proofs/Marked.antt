@@ -16,7 +16,8 @@ use Rattle.model.specs.Clear.{free_from, free_nodes, clear_links}
 use Rattle.model.specs.File.{spot_from, file_stores, file_links}
 use Rattle.model.specs.Withdraw.{block_before, parent_from, withdraw_stores, withdraw_links}
 use Rattle.model.specs.Rebuild.{heads_from, group_nodes, group_links}
-use Rattle.model.specs.Questions.{ask, clear_refusal, file_refusal, withdraw_refusal, rebuild_refusal, search_refusal, Work, number_at, ask_slip, read_kind, read_slip}
+use Rattle.model.specs.Wide.{number_in, signatures_in}
+use Rattle.model.specs.Questions.{ask, clear_refusal, file_refusal, withdraw_refusal, rebuild_refusal, search_refusal, Work, number_at, words_at, ask_slip, ask_kind, read_kind, read_slip}
 use Rattle.model.specs.Ledger.{empty_ledger, matching_from, entry_in, entries_from}
 use Rattle.model.specs.Lines.{slip_of, lines_by, tree_by, lines_on, tree_on, lines_packed, tree_packed, longest_path}
 
@@ -75,16 +76,16 @@ unfoldable pub blank_nodes : List ℕ
 blank_nodes = replicate 1023 0
 
 pub record MarkedSet : Type 0 where
-  pub run_ledger : lines_by lent (empty_ledger 1024 0) nothing run ≡ lines
+  pub run_ledger : lines_by 1024 lent (empty_ledger 1024 0) nothing run ≡ lines
   pub run_tables : lines_on lent run blank blank_links ≡ lines
   pub run_packed : lines_packed lent run blank blank_rows blank_nodes ≡ lines
-  pub filed_ledger : longest_path (tree_by lent (empty_ledger 1024 0) nothing (filings [])) (0b1000 ∷ 0b1100 ∷ 0b1110 ∷ 0b1111 ∷ []) ≡ 3
+  pub filed_ledger : longest_path (tree_by 1024 lent (empty_ledger 1024 0) nothing (filings [])) (0b1000 ∷ 0b1100 ∷ 0b1110 ∷ 0b1111 ∷ []) ≡ 3
   pub filed_tables : longest_path (tree_on lent (filings []) blank blank_links) (0b1000 ∷ 0b1100 ∷ 0b1110 ∷ 0b1111 ∷ []) ≡ 3
   pub filed_packed : longest_path (tree_packed lent (filings []) blank blank_rows blank_nodes) (0b1000 ∷ 0b1100 ∷ 0b1110 ∷ 0b1111 ∷ []) ≡ 3
-  pub rebuilt_ledger : tree_by lent (empty_ledger 1024 0) nothing (filings (slip_of 3 0 0 ∷ [])) ≡ rebuilt
+  pub rebuilt_ledger : tree_by 1024 lent (empty_ledger 1024 0) nothing (filings (slip_of 3 0 0 ∷ [])) ≡ rebuilt
   pub rebuilt_tables : tree_on lent (filings (slip_of 3 0 0 ∷ [])) blank blank_links ≡ rebuilt
   pub rebuilt_packed_is : tree_packed lent (filings (slip_of 3 0 0 ∷ [])) blank blank_rows blank_nodes ≡ rebuilt
 
 pub marked_set : MarkedSet
-unfolding slip_of run lines filings rebuilt lent blank blank_links blank_rows blank_nodes opened closed unpacked lines_packed tree_packed up_from keep has once coversb difference_from split insert join remove signatures path no_zero_edge compared nodes_read smaller best_of build_within tree_from free_from free_nodes clear_links spot_from file_stores file_links block_before parent_from withdraw_stores withdraw_links heads_from group_nodes group_links ask clear_refusal file_refusal withdraw_refusal rebuild_refusal search_refusal number_at ask_slip read_kind read_slip matching_from entry_in entries_from lines_by tree_by lines_on tree_on longest_path
+unfolding number_in signatures_in words_at ask_kind slip_of run lines filings rebuilt lent blank blank_links blank_rows blank_nodes opened closed unpacked lines_packed tree_packed up_from keep has once coversb difference_from split insert join remove signatures path no_zero_edge compared nodes_read smaller best_of build_within tree_from free_from free_nodes clear_links spot_from file_stores file_links block_before parent_from withdraw_stores withdraw_links heads_from group_nodes group_links ask clear_refusal file_refusal withdraw_refusal rebuild_refusal search_refusal number_at ask_slip read_kind read_slip matching_from entry_in entries_from lines_by tree_by lines_on tree_on longest_path
 marked_set = record { run_ledger = refl; run_tables = refl; run_packed = refl; filed_ledger = refl; filed_tables = refl; filed_packed = refl; rebuilt_ledger = refl; rebuilt_tables = refl; rebuilt_packed_is = refl }

@@ -6,7 +6,7 @@ use native.Mathlib.Omega.{arith}
 use mathlib.Core.Path.{◌≡◌, ap}
 use mathlib.Core.Logic.{⊎_elim, ◌≢◌}
 use mathlib.Core.Bool.{Bool, true, false}
-use Rattle.model.specs.Sound.{Sound}
+use Rattle.model.specs.Sound.{SoundLent}
 use Rattle.model.specs.Questions.{Asked, ask, clear_refusal, file_refusal, withdraw_refusal, rebuild_refusal, search_refusal, audit_refusal, Call, clear, file, withdraw, rebuild, search, audit, Work, refusal, asks_tables}
 use Rattle.model.specs.Ledger.{Report}
 use Rattle.model.specs.Promises.{unsound}
@@ -34,7 +34,7 @@ answered n a h f g e = go (ℕ_discrete n 0)
     go (yes z) = omega (arith, g z)
     go (no d) = omega (arith, f d)
 
-pub never_eleven : (c : Call) (M : Memory) (o : Report) (M' : Memory) → Gives c M o M' → Sound M.signatures M.links → o.answer ≢ unsound
+pub never_eleven : (c : Call) (M : Memory) (o : Report) (M' : Memory) → Gives c M o M' → SoundLent M.signatures M.links → o.answer ≢ unsound
 never_eleven (clear F) M o M' g S = answered _ _ (refusal_few (asks_tables M.signatures M.links) M.work (clear F)) (λ n. (g.0.refused n).0) (λ e. (g.0.done e).0)
 never_eleven (file b s) M o M' g S = answered _ _ (refusal_few (asks_tables M.signatures M.links) M.work (file b s)) (λ n. (g.0.refused n).0) (λ e. (g.0.done e S).0)
 never_eleven (withdraw b) M o M' g S = answered _ _ (refusal_few (asks_tables M.signatures M.links) M.work (withdraw b)) (λ n. (g.0.refused n).0) (λ e. (g.0.done e S).0)

@@ -5,7 +5,9 @@ use Prim.Native.Nat.{ℕ, ◌-◌, ◌≤◌}
 use native.Mathlib.Omega.{arith}
 use mathlib.Core.Path.{◌≡◌, sym, ◌∙◌, ap}
 use mathlib.Core.Logic.{◌≢◌}
+use mathlib.Core.List.{List}
 use lib.ListN.{length}
+use Rattle.model.specs.Wide.{number_in}
 use lib.Seq.{get_or-set_same, get_or-set_other}
 use Rattle.model.specs.Tree.{Tree}
 use Rattle.model.specs.Build.{build}
@@ -17,15 +19,15 @@ use Rattle.model.proofs.Build.{build_same}
 
 module _ (L : Ledger) (b : ℕ) (from : 1 ≤ b) where
   -- the block's own entry
-  pub file_own : (s : ℕ) → b ≤ length L.entries → entry_of (entered L (file b s)).entries b ≡ pair s
-  file_own s h = get_or-set_same L.entries (b - 1) (pair s) unfiled (omega arith)
+  pub file_own : (s : List ℕ) → b ≤ length L.entries → entry_of (entered L (file b s)).entries b ≡ pair (number_in s)
+  file_own s h = get_or-set_same L.entries (b - 1) (pair (number_in s)) unfiled (omega arith)
 
   pub withdraw_own : b ≤ length L.entries → entry_of (entered L (withdraw b)).entries b ≡ unfiled
   withdraw_own h = get_or-set_same L.entries (b - 1) unfiled unfiled (omega arith)
 
   -- every other entry
-  pub file_others : (s c : ℕ) → c ≢ b → 1 ≤ c → entry_of (entered L (file b s)).entries c ≡ entry_of L.entries c
-  file_others s c n h = get_or-set_other L.entries (b - 1) (c - 1) (pair s) unfiled (omega arith)
+  pub file_others : (s : List ℕ) (c : ℕ) → c ≢ b → 1 ≤ c → entry_of (entered L (file b s)).entries c ≡ entry_of L.entries c
+  file_others s c n h = get_or-set_other L.entries (b - 1) (c - 1) (pair (number_in s)) unfiled (omega arith)
 
   pub withdraw_others : (c : ℕ) → c ≢ b → 1 ≤ c → entry_of (entered L (withdraw b)).entries c ≡ entry_of L.entries c
   withdraw_others c n h = get_or-set_other L.entries (b - 1) (c - 1) unfiled unfiled (omega arith)

@@ -1,4 +1,7 @@
 pub mod Bits
+pub mod Wide
+mod WideExamples
+mod WideRun
 pub mod Pigeon
 pub mod Stores
 pub mod Packing

@@ -15,7 +15,8 @@ use Rattle.model.specs.Packed.{opened, closed, unpacked}
 use Rattle.model.specs.Clear.{free_from, free_nodes, clear_links}
 use Rattle.model.specs.File.{spot_from, file_stores, file_links}
 use Rattle.model.specs.Rebuild.{heads_from, group_nodes, group_links}
-use Rattle.model.specs.Questions.{ask, clear_refusal, file_refusal, rebuild_refusal, search_refusal, Work, number_at, ask_slip, read_kind, read_slip}
+use Rattle.model.specs.Wide.{number_in, signatures_in}
+use Rattle.model.specs.Questions.{ask, clear_refusal, file_refusal, rebuild_refusal, search_refusal, Work, number_at, words_at, ask_slip, ask_kind, read_kind, read_slip}
 use Rattle.model.specs.Ledger.{empty_ledger, matching_from, entry_in, entries_from}
 use Rattle.model.specs.Lines.{slip_of, lines_by, lines_packed}
 
@@ -39,7 +40,7 @@ lent = record { scratch = replicate 6 0; marks = replicate 6 0; output = replica
 -- What these three print after a mirror of B blocks, never cleared, has taken its slips: by the ledger and the plain tree, and on packed
 -- words.
 unfoldable pub by_ledger : ℕ → List (List ℕ) → List (List ℕ)
-by_ledger B slips = drop (length slips) (lines_by lent (empty_ledger B 0) nothing (slips ++ asked))
+by_ledger B slips = drop (length slips) (lines_by B lent (empty_ledger B 0) nothing (slips ++ asked))
 
 unfoldable pub on_words : ℕ → ℕ → ℕ → List (List ℕ) → List (List ℕ)
 on_words B links nodes slips = drop (length slips) (lines_packed lent (slips ++ asked) (replicate B 0) (replicate links 0) (replicate nodes 0))
@@ -57,5 +58,5 @@ pub record MirrorsQuote : Type 0 where
   pub third_words : on_words 6 17 5 third ≡ prints (4 ∷ 0 ∷ 2 ∷ 4 ∷ 3 ∷ 1 ∷ 3 ∷ []) (4 ∷ 0 ∷ 2 ∷ 3 ∷ 3 ∷ 1 ∷ 3 ∷ [])
 
 pub mirrors_quote : MirrorsQuote
-unfolding slip_of first second third asked lent by_ledger on_words prints opened closed unpacked lines_packed up_from keep has once coversb difference_from split insert signatures path no_zero_edge compared nodes_read smaller best_of build_within tree_from free_from free_nodes clear_links spot_from file_stores file_links heads_from group_nodes group_links ask clear_refusal file_refusal rebuild_refusal search_refusal number_at ask_slip read_kind read_slip matching_from entry_in entries_from lines_by
+unfolding number_in signatures_in words_at ask_kind slip_of first second third asked lent by_ledger on_words prints opened closed unpacked lines_packed up_from keep has once coversb difference_from split insert signatures path no_zero_edge compared nodes_read smaller best_of build_within tree_from free_from free_nodes clear_links spot_from file_stores file_links heads_from group_nodes group_links ask clear_refusal file_refusal rebuild_refusal search_refusal number_at ask_slip read_kind read_slip matching_from entry_in entries_from lines_by
 mirrors_quote = record { first_ledger = refl; first_words = refl; second_ledger = refl; second_words = refl; third_ledger = refl; third_words = refl }

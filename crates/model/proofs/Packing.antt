@@ -1,16 +1,23 @@
 -- The laws of packing: a word is its parts, where the words of the tables stand in the packed slices, what a store there is to the
--- tables, and that packing and unpacking undo each other.
+-- tables, that packing and unpacking undo each other, and what packed tables whose lengths fit say of themselves.
 -- Assumes nothing.
 use Prim.Native.Nat.{ℕ, zero, suc, ◌+◌, ◌-◌, ◌*◌, ◌^◌, ◌≤◌, ◌<◌}
 use native.Mathlib.Decide.{ℕ_discrete}
 use native.Mathlib.Omega.{arith}
 use mathlib.Core.Path.{◌≡◌, refl, sym, ◌∙◌, ap, ap₂}
+use mathlib.Core.Bool.{Bool, true, false, ◌&&◌}
 use mathlib.Core.List.{List, [], ◌∷◌, ◌++◌}
+use lib.Dec.{eqb}
 use lib.ListN.{length, get_or, set, take, drop, length-append, get_or-append, take-append-drop, length-drop}
 use lib.Seq.{get_or-append-add, set-append_left, take_at, drop_at}
-use Rattle.model.specs.Tables.{word, position_at, left_at, right_at, links_of, position_of, left_of, right_of}
+use borrow.Author.Tests.{le-leb, eq-eqb, eqb-true}
+use Rattle.model.specs.Limits.{most_blocks}
+use Rattle.model.specs.Tables.{width_of, blocks_of, word, position_at, left_at, right_at, links_of, position_of, left_of, right_of}
 use Rattle.model.specs.Stores.{◌↤◌, stores}
-use Rattle.model.specs.Packed.{node_word, position_in, left_in, right_in, part_in, with_part, Packs, opened, closed, rows_of, unpacked, packed_links, packed_nodes}
+use Rattle.model.specs.Packed.{node_word, position_in, left_in, right_in, part_in, with_part, Packs, opened, closed, rows_of, packed_blocks, unpacked, packed_links, packed_nodes}
+use Rattle.model.specs.Questions.{asks_tables, blocks_fit}
+use Rattle.model.specs.PackedPromises.{packed_fit, asks_packed}
+use Rattle.model.proofs.Asking.{both, in_range}
 
 -- a word is its parts
 pub whole_word : (w : ℕ) → node_word (position_in w) (left_in w) (right_in w) ≡ w
@@ -228,3 +235,64 @@ unfolding unpacked
 unpacked_packed B links h e s =
     ap (λ (t : List ℕ). take (rows_of B) links ++ t) (opened_closed (B - 1) (drop (rows_of B) links) (let l = length-drop (rows_of B) links in omega arith) s)
     ∙ take-append-drop (rows_of B) links
+
+-- ---- how many blocks there are, and question 4
+
+-- links of a fitting length tell B, and so do packed ones
+pub blocks_told : (links : List ℕ) (B : ℕ) → length links ≡ links_of B → blocks_of links ≡ B
+blocks_told links B e = omega arith
+
+pub packed_told : (links : List ℕ) (B : ℕ) → length links ≡ rows_of B → packed_blocks links ≡ B
+packed_told links B e = omega arith
+
+-- the tables that packed ones hold tell the same B, and the same width
+pub unpacked_told : (B : ℕ) (links nodes : List ℕ) → Packs B links nodes → blocks_of (unpacked links nodes) ≡ B
+unpacked_told B links nodes P = blocks_told (unpacked links nodes) B (long_packs B links nodes P)
+
+pub unpacked_width : (B : ℕ) (links nodes : List ℕ) → Packs B links nodes → width_of (unpacked links nodes) ≡ width_of links
+unpacked_width B links nodes P = front_word B links nodes P 0 (omega arith)
+
+-- packed tables whose lengths fit
+module _ (links nodes : List ℕ) (f : packed_fit links nodes ≡ true) where
+  halves : ((blocks_fit (packed_blocks links) && eqb (length links) (rows_of (packed_blocks links))) ≡ true) × (eqb (length nodes) (packed_blocks links - 1) ≡ true)
+  halves = both {t = blocks_fit (packed_blocks links) && eqb (length links) (rows_of (packed_blocks links))} f
+
+  pub fit_range : (1 ≤ packed_blocks links) × (packed_blocks links ≤ most_blocks)
+  fit_range = in_range (packed_blocks links) most_blocks (both {t = blocks_fit (packed_blocks links)} halves.0).0
+
+  pub fit_packs : Packs (packed_blocks links) links nodes
+  fit_packs =
+      let n = eqb-true (length nodes) (packed_blocks links - 1) halves.1 in
+      let h = fit_range.0 in
+      record { rows_long = eqb-true _ _ (both {t = blocks_fit (packed_blocks links)} halves.0).1; nodes_long = omega arith }
+
+  pub fit_told : blocks_of (unpacked links nodes) ≡ packed_blocks links
+  fit_told = unpacked_told (packed_blocks links) links nodes fit_packs
+
+  pub fit_width : width_of (unpacked links nodes) ≡ width_of links
+  fit_width = unpacked_width (packed_blocks links) links nodes fit_packs
+
+  pub fit_lengths : (words : List ℕ) → (asks_tables words (unpacked links nodes)).lengths ≡ true
+  fit_lengths words =
+      let l = long_packs (packed_blocks links) links nodes fit_packs in
+      rw (fit_told, le-leb 1 (packed_blocks links) fit_range.0, le-leb (packed_blocks links) most_blocks fit_range.1, eq-eqb (length (unpacked links nodes)) (links_of (packed_blocks links)) l)
+
+  -- they say what the tables say that they hold
+  pub packed_asks : (words : List ℕ) → asks_packed words links nodes ≡ asks_tables words (unpacked links nodes)
+  packed_asks words =
+      let A = asks_tables words (unpacked links nodes) in
+      ap (λ (t : Bool). record { lengths = t && A.lengths; lent = A.lent; words = A.words; width = A.width; blocks = A.blocks; filed = A.filed }) f
+
+-- and the other way: slices that are as long fit
+pub packs_fit : (B : ℕ) (links nodes : List ℕ) → 1 ≤ B → B ≤ most_blocks → Packs B links nodes → packed_fit links nodes ≡ true
+packs_fit B links nodes h k P =
+    let n : length nodes ≡ B - 1 = omega (arith, P.nodes_long) in
+    rw (packed_told links B P.rows_long, le-leb 1 B h, le-leb B most_blocks k, eq-eqb (length links) (rows_of B) P.rows_long, eq-eqb (length nodes) (B - 1) n)
+
+-- lengths that fit go on fitting while the slices stay as long
+pub fit_stays : (links nodes links' nodes' : List ℕ) → length links' ≡ length links → length nodes' ≡ length nodes → packed_fit links nodes ≡ true → packed_fit links' nodes' ≡ true
+fit_stays links nodes links' nodes' l n f = rw (l, n) f
+
+-- lengths that do not fit, and what they say
+pub unfit_asks : (words links nodes : List ℕ) → packed_fit links nodes ≡ false → (asks_packed words links nodes).lengths ≡ false
+unfit_asks words links nodes f = rw f

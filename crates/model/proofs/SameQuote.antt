@@ -5,91 +5,125 @@
 use Prim.Native.Nat.{ℕ}
 use mathlib.Core.Path.{◌≡◌, refl, sym, ◌∙◌, ap, ap₂, subst}
 use mathlib.Core.Bool.{Bool, true, false}
-use mathlib.Core.List.{List, [], ◌∷◌, ◌++◌}
+use mathlib.Core.List.{List, [], ◌∷◌, ◌++◌, append_assoc}
 use lib.Dec.{eqb}
 use lib.ListN.{length, take}
 use lib.Seq.{take_at}
 use borrow.Author.Tests.{eqb-false}
 use Rattle.model.specs.Tree.{Tree, nothing, reached, nodes_read}
 use Rattle.model.specs.Build.{build}
-use Rattle.model.specs.Tables.{tree_of}
+use Rattle.model.specs.Tables.{signatures_of, tree_of}
 use Rattle.model.specs.Questions.{Work, Call, rebuild, search, refusal, carries}
 use Rattle.model.specs.Ledger.{Ledger, stored, matching, ledger_of, asks_ledger, entered, grown, ledger_after, tree_after, Report, done_by, report_by}
-use Rattle.model.specs.Lists.{Memory, reading, Step}
-use Rattle.model.specs.Claim.{Right, Claim}
-use Rattle.model.specs.SameQuote.{Ran, Accepted, Still, Quoted, ledger_end, ends_in, SameWidth, SameSet, SamePairs, SameCounts, listed, SameAnswers, SameQuote}
+use Rattle.model.specs.Promises.{output_after}
+use Rattle.model.specs.Lists.{Step, words_after}
+use Rattle.model.specs.Claim.{Claim, lent_with, reading_by}
+use Rattle.model.specs.SameQuote.{Ran, Still, Quoted, ledger_end, words_end, ends_in, SameWidth, SameSet, SamePairs, SameCounts, listed, SameAnswers, SameQuote}
 use Rattle.model.proofs.Compared.{reached_same}
 use Rattle.model.proofs.Entered.{stored_same, rebuild_set}
 use Rattle.model.proofs.Pairs.{pairs_set, pairs_matching}
 
--- the claim about a list, on some tables
-abbrev pub Claimed : Ledger → Tree → List Step → Type 0
-Claimed L t ss = (sigs : List ℕ) × (links : List ℕ) × Claim L t sigs links ss
+-- the claim about a list, from this signature slice and some links
+abbrev pub Claimed : Ledger → Tree → List ℕ → List Step → Type 0
+Claimed L t words ss = (links : List ℕ) × Claim L t words links ss
+
+-- the ledger and the plain tree after a step
+abbrev ledger_next : Ledger → List ℕ → Step → Ledger
+ledger_next L words s = ledger_after L (lent_with words s) s.lent (reading_by L words s)
+
+abbrev tree_next : Ledger → Tree → List ℕ → Step → Tree
+tree_next L t words s = tree_after L t (lent_with words s) s.lent (reading_by L words s)
 
 -- the plain tree after a list of calls
-abbrev tree_end : Ledger → Tree → List Step → Tree
-tree_end L t [] = t
-tree_end L t (s ∷ ss) = tree_end (ledger_after L s.lent (reading s.request)) (tree_after L t s.lent (reading s.request)) ss
+abbrev tree_end : Ledger → Tree → List ℕ → List Step → Tree
+tree_end L t words [] = t
+tree_end L t words (s ∷ ss) = tree_end (ledger_next L words s) (tree_next L t words s) (words_after words s) ss
 
 -- where its first part ends, the claim is that about the rest
-claimed_rest : (L : Ledger) (t : Tree) (ss us : List Step) → Claimed L t (ss ++ us) → Claimed (ledger_end L ss) (tree_end L t ss) us
-claimed_rest L t [] us x = x
-claimed_rest L t (s ∷ ss) us x =
-    claimed_rest (ledger_after L s.lent (reading s.request)) (tree_after L t s.lent (reading s.request)) ss us (s.left.signatures, s.left.links, x.2.1)
+claimed_rest : (L : Ledger) (t : Tree) (words : List ℕ) (ss us : List Step) → Claimed L t words (ss ++ us)
+    → Claimed (ledger_end L words ss) (tree_end L t words ss) (words_end words ss) us
+claimed_rest L t words [] us x = x
+claimed_rest L t words (s ∷ ss) us x = claimed_rest (ledger_next L words s) (tree_next L t words s) (words_after words s) ss us (s.left.links, x.1.1)
 
-claimed_by : (L L' : Ledger) (t t' : Tree) (ss : List Step) → L ≡ L' → t ≡ t' → Claimed L t ss → Claimed L' t' ss
-claimed_by L L' t t' ss e f x = subst (λ (K : Ledger). Claimed K t' ss) e (subst (λ (u : Tree). Claimed L u ss) f x)
+-- where a list of two parts ends
+ends_ledger : (L : Ledger) (words : List ℕ) (ss us : List Step) → ledger_end L words (ss ++ us) ≡ ledger_end (ledger_end L words ss) (words_end words ss) us
+ends_ledger L words [] us = refl
+ends_ledger L words (s ∷ ss) us = ends_ledger (ledger_next L words s) (words_after words s) ss us
+
+ends_tree : (L : Ledger) (t : Tree) (words : List ℕ) (ss us : List Step)
+    → tree_end L t words (ss ++ us) ≡ tree_end (ledger_end L words ss) (tree_end L t words ss) (words_end words ss) us
+ends_tree L t words [] us = refl
+ends_tree L t words (s ∷ ss) us = ends_tree (ledger_next L words s) (tree_next L t words s) (words_after words s) ss us
 
 -- steps that leave the tables leave the ledger and the tree, which are the tables'
-claimed_still : (M : Memory) (L : Ledger) (t : Tree) → ledger_of M.signatures M.links ≡ L → tree_of M.signatures M.links ≡ t
-    → (ss us : List Step) → Still M ss → Claimed L t (ss ++ us) → Claimed L t us
-claimed_still M L t e f [] us h x = x
-claimed_still M L t e f (s ∷ ss) us h x =
-    let k = x.2.0.kept in
-    let l = sym k.ledger ∙ ap₂ ledger_of h.0 h.1 ∙ e in
-    let u = sym k.tree ∙ ap₂ tree_of h.0 h.1 ∙ f in
-    claimed_still M L t e f ss us h.2 (claimed_by _ L _ t (ss ++ us) l u (s.left.signatures, s.left.links, x.2.1))
+record SameEnd (L : Ledger) (t : Tree) (L' : Ledger) (t' : Tree) : Type 0 where
+  ledger : L' ≡ L
+  tree : t' ≡ t
+
+still_ends : (words links : List ℕ) (L : Ledger) (t : Tree)
+    → ledger_of (signatures_of words links) links ≡ L → tree_of (signatures_of words links) links ≡ t
+    → (ss us : List Step) (L' : Ledger) (t' : Tree) (words' : List ℕ) → words' ≡ words → L' ≡ L → t' ≡ t → Still words links ss → Claimed L' t' words' (ss ++ us)
+    → SameEnd L t (ledger_end L' words' ss) (tree_end L' t' words' ss)
+still_ends words links L t e f [] us L' t' words' w l u h x = record { ledger = l; tree = u }
+still_ends words links L t e f (s ∷ ss) us L' t' words' w l u h x =
+    let k = x.1.0.kept in
+    let a : words_after words' s ≡ words = ap (λ (ws : List ℕ). words_after ws s) w ∙ h.0 in
+    let l' = sym k.ledger ∙ ap₂ (λ (ws ls : List ℕ). ledger_of (signatures_of ws ls) ls) a h.1 ∙ e in
+    let u' = sym k.tree ∙ ap₂ (λ (ws ls : List ℕ). tree_of (signatures_of ws ls) ls) a h.1 ∙ f in
+    still_ends words links L t e f ss us _ _ _ a l' u' h.2 (s.left.links, x.1.1)
 
 -- what reports 0 is what no question refuses
-report_zero : (L : Ledger) (t : Tree) (W : Work) (c : Call) → (report_by L t W (carries c)).answer ≡ 0 → eqb (refusal (asks_ledger L) W c) 0 ≡ true
-report_zero L t W c z = go (eqb (refusal (asks_ledger L) W c) 0) refl
+report_zero : (L : Ledger) (t : Tree) (n : ℕ) (W : Work) (c : Call) → (report_by L t n W (carries c)).answer ≡ 0 → eqb (refusal (asks_ledger L n) W c) 0 ≡ true
+report_zero L t n W c z = go (eqb (refusal (asks_ledger L n) W c) 0) refl
   where
-    go : (b : Bool) → eqb (refusal (asks_ledger L) W c) 0 ≡ b → eqb (refusal (asks_ledger L) W c) 0 ≡ true
+    go : (b : Bool) → eqb (refusal (asks_ledger L n) W c) 0 ≡ b → eqb (refusal (asks_ledger L n) W c) 0 ≡ true
     go true e = e
-    go false e = absurd (eqb-false (refusal (asks_ledger L) W c) 0 e (rw (e, report_by) at z))
+    go false e = absurd (eqb-false (refusal (asks_ledger L n) W c) 0 e (rw (e, report_by) at z))
 
 -- a step that is carried out: what it reports, and the ledger and the tree after it
-module _ (c : Call) (s : Step) (a : Accepted c s) (L : Ledger) (t : Tree) (M M' : Memory) (x : Right L t (reading s.request) M s.report M') where
-  by_call : s.report ≡ report_by L t M.work (carries c)
-  by_call = x.report ∙ ap (report_by L t M.work) a.asks
+module _ (c : Call) (s : Step) (L : Ledger) (words : List ℕ) (asks : reading_by L words s ≡ carries c) (zero : s.report.answer ≡ 0) (t : Tree) (n : ℕ) (W : Work)
+    (report : s.report ≡ report_by L t n W (reading_by L words s)) where
+  by_call : s.report ≡ report_by L t n W (carries c)
+  by_call = report ∙ ap (report_by L t n W) asks
 
-  passes : eqb (refusal (asks_ledger L) M.work c) 0 ≡ true
-  passes = report_zero L t M.work c (sym (ap (λ (o : Report). o.answer) by_call) ∙ a.zero)
+  passes : eqb (refusal (asks_ledger L n) W c) 0 ≡ true
+  passes = report_zero L t n W c (sym (ap (λ (o : Report). o.answer) by_call) ∙ zero)
 
   accepted_report : s.report ≡ done_by L t c
   accepted_report = let k = passes in by_call ∙ rw (k, report_by)
 
-  accepted_ledger : ledger_after L M.work (reading s.request) ≡ entered L c
-  accepted_ledger = let k = passes in ap (ledger_after L M.work) a.asks ∙ rw (k, ledger_after)
+  accepted_ledger : ledger_after L n W (reading_by L words s) ≡ entered L c
+  accepted_ledger = let k = passes in ap (ledger_after L n W) asks ∙ rw (k, ledger_after)
 
-  accepted_tree : tree_after L t M.work (reading s.request) ≡ grown L t c
-  accepted_tree = let k = passes in ap (tree_after L t M.work) a.asks ∙ rw (k, tree_after)
+  accepted_tree : tree_after L t n W (reading_by L words s) ≡ grown L t c
+  accepted_tree = let k = passes in ap (tree_after L t n W) asks ∙ rw (k, tree_after)
 
 -- the plain tree of a rebuild
 abbrev rebuilt_tree : Ledger → Tree
 rebuilt_tree L = build L.width (stored L)
 
 -- what a search of a rebuilt index gives, by its ledger alone
+abbrev quote : ℕ → Ledger → Report
+quote q L = record {
+  answer = 0;
+  found = length (matching q L);
+  compares = length (reached L.width q (rebuilt_tree L) (stored L));
+  bits = nodes_read L.width q (rebuilt_tree L);
+}
+
 record ByLedger (q : ℕ) (L : Ledger) (s : Step) : Type 0 where
-  report : s.report ≡ done_by L (rebuilt_tree L) (search q)
+  report : s.report ≡ quote q L
   blocks : listed s ≡ matching q L
 
-module _ (q : ℕ) (I : Quoted q) (claimed : Claimed I.ledger I.tree (I.calls ++ (I.rebuilt ∷ (I.between ++ (I.searched ∷ []))))) where
+module _ (q : ℕ) (I : Quoted q) (claimed : Claimed I.ledger I.tree I.words (I.calls ++ (I.rebuilt ∷ (I.between ++ (I.searched ∷ []))))) where
   abbrev L : Ledger
   L = ends_in I
 
   abbrev t : Tree
-  t = tree_end I.ledger I.tree I.calls
+  t = tree_end I.ledger I.tree I.words I.calls
+
+  abbrev words : List ℕ
+  words = words_end I.words I.calls
 
   abbrev r : Step
   r = I.rebuilt
@@ -97,22 +131,46 @@ module _ (q : ℕ) (I : Quoted q) (claimed : Claimed I.ledger I.tree (I.calls ++
   abbrev s : Step
   s = I.searched
 
-  at_rebuild : Claimed L t (r ∷ (I.between ++ (s ∷ [])))
-  at_rebuild = claimed_rest I.ledger I.tree I.calls (r ∷ (I.between ++ (s ∷ []))) claimed
+  at_rebuild : Claimed L t words (r ∷ (I.between ++ (s ∷ [])))
+  at_rebuild = claimed_rest I.ledger I.tree I.words I.calls (r ∷ (I.between ++ (s ∷ []))) claimed
 
-  at_search : Claimed L (rebuilt_tree L) (s ∷ [])
+  -- where the search finds them
+  abbrev L' : Ledger
+  L' = ledger_end I.ledger I.words (I.calls ++ (r ∷ I.between))
+
+  abbrev t' : Tree
+  t' = tree_end I.ledger I.tree I.words (I.calls ++ (r ∷ I.between))
+
+  abbrev words' : List ℕ
+  words' = words_end I.words (I.calls ++ (r ∷ I.between))
+
+  at_search : Claimed L' t' words' (s ∷ [])
   at_search =
-      let x = at_rebuild.2 in
-      let e : ledger_after L r.lent (reading r.request) ≡ L = accepted_ledger rebuild r I.rebuilds L t _ _ x.0 in
-      let f : tree_after L t r.lent (reading r.request) ≡ rebuilt_tree L = accepted_tree rebuild r I.rebuilds L t _ _ x.0 in
-      claimed_still r.left L (rebuilt_tree L) (x.0.kept.ledger ∙ e) (x.0.kept.tree ∙ f) I.between (s ∷ []) I.still
-      (claimed_by _ L _ (rebuilt_tree L) (I.between ++ (s ∷ [])) e f (r.left.signatures, r.left.links, x.1))
+      claimed_rest I.ledger I.tree I.words (I.calls ++ (r ∷ I.between)) (s ∷ [])
+      (subst (Claimed I.ledger I.tree I.words) (sym (append_assoc I.calls (r ∷ I.between) (s ∷ []))) claimed)
+
+  same_end : SameEnd L (rebuilt_tree L) L' t'
+  same_end =
+      let x = at_rebuild.1 in
+      let e : ledger_next L words r ≡ L = accepted_ledger rebuild r L words I.rebuilds.asks I.rebuilds.zero t _ _ x.0.report in
+      let f : tree_next L t words r ≡ rebuilt_tree L = accepted_tree rebuild r L words I.rebuilds.asks I.rebuilds.zero t _ _ x.0.report in
+      let d =
+      still_ends (words_after words r) r.left.links L (rebuilt_tree L) (x.0.kept.ledger ∙ e) (x.0.kept.tree ∙ f) I.between (s ∷ []) _ _ (words_after words r) refl e f I.still
+      (r.left.links, x.1) in
+      record {
+        ledger = ends_ledger I.ledger I.words I.calls (r ∷ I.between) ∙ d.ledger;
+        tree = ends_tree I.ledger I.tree I.words I.calls (r ∷ I.between) ∙ d.tree;
+      }
 
   by_ledger_holds : ByLedger q L s
   by_ledger_holds =
-      let x = at_search.2.0 in
-      let d : s.report ≡ done_by L (rebuilt_tree L) (search q) = accepted_report (search q) s I.searches L (rebuilt_tree L) _ _ x in
-      let l = (x.searched q I.searches.asks I.searches.zero).listed in
+      let x = at_search.1.0 in
+      let e : s.report ≡ done_by L' t' (search I.query) = accepted_report (search I.query) s L' words' I.searches.asks I.searches.zero t' _ _ x.report in
+      let d : s.report ≡ quote q L =
+      e ∙ ap₂ (λ (K : Ledger) (u : Tree). done_by K u (search I.query)) same_end.ledger same_end.tree ∙ ap (λ (n : ℕ). quote n L) I.asked in
+      let l : s.left.work.output ≡ output_after (matching q L) s.lent.output =
+      (x.searched I.query I.searches.asks I.searches.zero).listed
+      ∙ ap₂ (λ (n : ℕ) (K : Ledger). output_after (matching n K) s.lent.output) I.asked same_end.ledger in
       record { report = d; blocks = ap (take s.report.found) l ∙ take_at (matching q L) _ s.report.found (sym (ap (λ (o : Report). o.found) d)) }
 
 -- two ledgers of one width with the same set
@@ -136,7 +194,7 @@ module _ (q : ℕ) (L L' : Ledger) (w : SameWidth L L') (h : SameSet L L') where
 
 -- with the same pairs
 module _ (q : ℕ) (L L' : Ledger) (w : SameWidth L L') (h : SamePairs L L') where
-  same_report : done_by L (rebuilt_tree L) (search q) ≡ done_by L' (rebuilt_tree L') (search q)
+  same_report : quote q L ≡ quote q L'
   same_report =
       let set = pairs_set L L' h in
       ap₂ (λ (n m : ℕ). record { answer = 0; found = n; compares = m; bits = nodes_read L.width q (rebuilt_tree L) }) (ap length (pairs_matching L L' h w q)) (same_compares q L L' w set)
@@ -146,9 +204,9 @@ module _ (q : ℕ) (L L' : Ledger) (w : SameWidth L L') (h : SamePairs L L') whe
   same_answers s s' x y = record { report = x.report ∙ same_report ∙ sym y.report; blocks = x.blocks ∙ pairs_matching L L' h w q ∙ sym y.blocks }
 
 -- Ticket 14, from the claim about every list that was run.
-pub quotes : ((L : Ledger) (t : Tree) (ss : List Step) → Ran L t ss → Claimed L t ss) → SameQuote
+pub quotes : ((L : Ledger) (t : Tree) (words : List ℕ) (ss : List Step) → Ran L t words ss → Claimed L t words ss) → SameQuote
 quotes claim =
-    let told : (q : ℕ) (I : Quoted q) → ByLedger q (ends_in I) I.searched = λ q I. by_ledger_holds q I (claim I.ledger I.tree _ I.ran) in
+    let told : (q : ℕ) (I : Quoted q) → ByLedger q (ends_in I) I.searched = λ q I. by_ledger_holds q I (claim I.ledger I.tree I.words _ I.ran) in
     record {
       same_set = λ q I J w h. same_counts q (ends_in I) (ends_in J) w h I.searched J.searched (told q I) (told q J);
       same_pairs = λ q I J w h. same_answers q (ends_in I) (ends_in J) w h I.searched J.searched (told q I) (told q J);

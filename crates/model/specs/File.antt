@@ -3,6 +3,7 @@
 -- Assumes nothing.
 use Rattle.std.specs.Prelude.{ℕ, zero, suc, ◌+◌, ◌-◌, true, false, List, [], ◌∷◌, eqb, leb, length, set}
 use Rattle.model.specs.Signature.{bit_at, first_difference}
+use Rattle.model.specs.Wide.{word_count, set_words}
 use Rattle.model.specs.Tables.{word, root_at, free_at, count_at, next_at, filed_at, position_at, side_at, width_of, free_of, count_of, next_of, position_of, left_of, signature_of}
 use Rattle.model.specs.Stores.{Store, ◌↤◌, stores}
 
@@ -44,7 +45,10 @@ file_stores B F links b s at h a p =
       | false ↦ elim (eqb a s) [ true ↦ chain_stores links b h | false ↦ split_stores B links b at h (free_of links) p (bit_at F s p) ]
     ]
 
--- File: the signatures and the links that it leaves
+-- File: the signatures and the links that it leaves; the block's words become the lent ones
+abbrev pub file_words : List ℕ → List ℕ → ℕ → List ℕ → List ℕ
+file_words words links b s = set_words (word_count (width_of links)) words b s
+
 abbrev pub file_signatures : List ℕ → ℕ → ℕ → List ℕ
 file_signatures sigs b s = set sigs (b - 1) s
 

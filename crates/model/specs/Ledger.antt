@@ -3,6 +3,7 @@
 use Rattle.std.specs.Prelude.{ℕ, zero, suc, ◌-◌, Bool, true, false, List, [], ◌∷◌, eqb, length, get_or, set, replicate}
 use Rattle.model.specs.Basics.{has, once}
 use Rattle.model.specs.Signature.{coversb}
+use Rattle.model.specs.Wide.{number_in}
 use Rattle.model.specs.Tree.{Tree, nothing, insert, remove, reached, nodes_read}
 use Rattle.model.specs.Build.{build}
 use Rattle.model.specs.Tables.{width_of, filed_of, signature_of}
@@ -66,10 +67,12 @@ entries_from sigs links (suc n) b = entry_in sigs links b ∷ entries_from sigs 
 abbrev pub ledger_of : List ℕ → List ℕ → Ledger
 ledger_of sigs links = record { width = width_of links; entries = entries_from sigs links (length sigs) 1 }
 
--- what the ledger's questions are asked of: F and B and itself; a filed word is 0 exactly when the block has no pair
-abbrev pub asks_ledger : Ledger → Asked
-asks_ledger L = record {
+-- what the ledger's questions are asked of, with n words lent for signatures: F and B and itself; a filed word is 0 exactly when the
+-- block has no pair
+abbrev pub asks_ledger : Ledger → ℕ → Asked
+asks_ledger L n = record {
   lengths = blocks_fit (length L.entries);
+  lent = n;
   words = width_fits L.width;
   width = L.width;
   blocks = length L.entries;
@@ -77,14 +80,14 @@ asks_ledger L = record {
 }
 
 -- the ledger's answer: the first no, or 0
-abbrev pub answer_of : Ledger → Work → Reading → ℕ
-answer_of L W (refused n) = n
-answer_of L W (carries c) = refusal (asks_ledger L) W c
+abbrev pub answer_of : Ledger → ℕ → Work → Reading → ℕ
+answer_of L n W (refused m) = m
+answer_of L n W (carries c) = refusal (asks_ledger L n) W c
 
 -- The ledger after a call that no question refuses: clear empties it and sets F, file adds the pair, withdraw takes the block's pair out.
 abbrev pub entered : Ledger → Call → Ledger
 entered L (clear F) = empty_ledger (length L.entries) F
-entered L (file b s) = record { width = L.width; entries = set L.entries (b - 1) (pair s) }
+entered L (file b s) = record { width = L.width; entries = set L.entries (b - 1) (pair (number_in s)) }
 entered L (withdraw b) = record { width = L.width; entries = set L.entries (b - 1) unfiled }
 entered L rebuild = L
 entered L (search q) = L
@@ -98,20 +101,20 @@ lost L (pair s) t = elim (is_stored s L) [ true ↦ t | false ↦ remove L.width
 -- The plain tree after a call that no question refuses: filing a signature not yet stored puts its leaf in, rebuild makes it anew from the stored signatures.
 abbrev pub grown : Ledger → Tree → Call → Tree
 grown L t (clear F) = nothing
-grown L t (file b s) = elim (is_stored s L) [ true ↦ t | false ↦ insert L.width s t ]
+grown L t (file b s) = elim (is_stored (number_in s) L) [ true ↦ t | false ↦ insert L.width (number_in s) t ]
 grown L t (withdraw b) = lost (entered L (withdraw b)) (entry_of L.entries b) t
 grown L t rebuild = build L.width (stored L)
 grown L t (search q) = t
 grown L t audit = t
 
--- After any call; one that is refused changes nothing.
-abbrev pub ledger_after : Ledger → Work → Reading → Ledger
-ledger_after L W (refused n) = L
-ledger_after L W (carries c) = elim (eqb (refusal (asks_ledger L) W c) 0) [ true ↦ entered L c | false ↦ L ]
+-- After any call with n words lent for signatures; one that is refused changes nothing.
+abbrev pub ledger_after : Ledger → ℕ → Work → Reading → Ledger
+ledger_after L n W (refused m) = L
+ledger_after L n W (carries c) = elim (eqb (refusal (asks_ledger L n) W c) 0) [ true ↦ entered L c | false ↦ L ]
 
-abbrev pub tree_after : Ledger → Tree → Work → Reading → Tree
-tree_after L t W (refused n) = t
-tree_after L t W (carries c) = elim (eqb (refusal (asks_ledger L) W c) 0) [ true ↦ grown L t c | false ↦ t ]
+abbrev pub tree_after : Ledger → Tree → ℕ → Work → Reading → Tree
+tree_after L t n W (refused m) = t
+tree_after L t n W (carries c) = elim (eqb (refusal (asks_ledger L n) W c) 0) [ true ↦ grown L t c | false ↦ t ]
 
 -- What a call reports: the answer, 0 or the refusal, and the counts found, compares and bits read.
 pub record Report : Type 0 where
@@ -131,10 +134,15 @@ done_by L t (clear F) = bare 0
 done_by L t (file b s) = bare 0
 done_by L t (withdraw b) = bare 0
 done_by L t rebuild = bare 0
-done_by L t (search q) = record { answer = 0; found = length (matching q L); compares = length (reached L.width q t (stored L)); bits = nodes_read L.width q t }
+done_by L t (search q) = record {
+  answer = 0;
+  found = length (matching (number_in q) L);
+  compares = length (reached L.width (number_in q) t (stored L));
+  bits = nodes_read L.width (number_in q) t;
+}
 done_by L t audit = bare 0
 
 -- what any call reports
-abbrev pub report_by : Ledger → Tree → Work → Reading → Report
-report_by L t W (refused n) = bare n
-report_by L t W (carries c) = elim (eqb (refusal (asks_ledger L) W c) 0) [ true ↦ done_by L t c | false ↦ bare (refusal (asks_ledger L) W c) ]
+abbrev pub report_by : Ledger → Tree → ℕ → Work → Reading → Report
+report_by L t n W (refused m) = bare m
+report_by L t n W (carries c) = elim (eqb (refusal (asks_ledger L n) W c) 0) [ true ↦ done_by L t c | false ↦ bare (refusal (asks_ledger L n) W c) ]

@@ -1,5 +1,6 @@
 pub mod Basics
 pub mod Limits
+pub mod Wide
 pub mod Signature
 pub mod Tree
 pub mod Build

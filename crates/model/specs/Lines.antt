@@ -4,15 +4,17 @@
 -- Assumes nothing.
 use Rattle.std.specs.Prelude.{ℕ, zero, suc, max, true, false, List, [], ◌∷◌, eqb, length}
 use Rattle.model.specs.Tree.{Tree, path}
-use Rattle.model.specs.Tables.{tree_of}
+use Rattle.model.specs.Tables.{tree_of, blocks_of, signatures_of}
 use Rattle.model.specs.Packed.{unpacked, packed_links, packed_nodes}
-use Rattle.model.specs.Clear.{clear_signatures, clear_links}
-use Rattle.model.specs.File.{file_signatures, file_links}
-use Rattle.model.specs.Withdraw.{withdraw_signatures, withdraw_links}
+use Rattle.model.specs.Clear.{clear_links, clear_words}
+use Rattle.model.specs.File.{file_links, file_words}
+use Rattle.model.specs.Withdraw.{withdraw_links, withdraw_words}
+use Rattle.model.specs.Wide.{number_in}
 use Rattle.model.specs.Rebuild.{rebuild_links}
 use Rattle.model.specs.Questions.{asks_tables, Work, Call, clear, file, withdraw, rebuild, search, audit, refusal, kind_in, Reading, refused, carries, read_slip}
 use Rattle.model.specs.Ledger.{Ledger, matching, ledger_of, asks_ledger, ledger_after, tree_after, Report, bare, report_by}
 use Rattle.model.specs.Promises.{search_report}
+use Rattle.model.specs.PackedPromises.{asks_packed}
 
 -- a slip of numbers below 256: kind, block (for a clear the width), signature or query
 unfoldable pub slip_of : ℕ → ℕ → ℕ → List ℕ
@@ -28,90 +30,95 @@ listed_by L (clear F) = []
 listed_by L (file b s) = []
 listed_by L (withdraw b) = []
 listed_by L rebuild = []
-listed_by L (search q) = matching q L
+listed_by L (search q) = matching (number_in q) L
 listed_by L audit = []
 
 -- By the ledger and the plain tree: a refused call lists nothing.
-abbrev pub list_by : Ledger → Work → Reading → List ℕ
-list_by L W (refused n) = []
-list_by L W (carries c) = elim (eqb (refusal (asks_ledger L) W c) 0) [ true ↦ listed_by L c | false ↦ [] ]
+abbrev pub list_by : Ledger → ℕ → Work → Reading → List ℕ
+list_by L n W (refused m) = []
+list_by L n W (carries c) = elim (eqb (refusal (asks_ledger L n) W c) 0) [ true ↦ listed_by L c | false ↦ [] ]
 
-unfoldable pub lines_by : Work → Ledger → Tree → List (List ℕ) → List (List ℕ)
-lines_by W L t [] = []
-lines_by W L t (bytes ∷ rest) =
-    let r = read_slip bytes in
-    line_of bytes (report_by L t W r) (list_by L W r) ∷ lines_by W (ledger_after L W r) (tree_after L t W r) rest
+-- n words are lent for signatures, all along
+unfoldable pub lines_by : ℕ → Work → Ledger → Tree → List (List ℕ) → List (List ℕ)
+lines_by n W L t [] = []
+lines_by n W L t (bytes ∷ rest) =
+    let r = read_slip (asks_ledger L n) bytes in
+    line_of bytes (report_by L t n W r) (list_by L n W r) ∷ lines_by n W (ledger_after L n W r) (tree_after L t n W r) rest
 
 -- the plain tree after a run
-unfoldable pub tree_by : Work → Ledger → Tree → List (List ℕ) → Tree
-tree_by W L t [] = t
-tree_by W L t (bytes ∷ rest) = tree_by W (ledger_after L W (read_slip bytes)) (tree_after L t W (read_slip bytes)) rest
+unfoldable pub tree_by : ℕ → Work → Ledger → Tree → List (List ℕ) → Tree
+tree_by n W L t [] = t
+tree_by n W L t (bytes ∷ rest) =
+    let r = read_slip (asks_ledger L n) bytes in
+    tree_by n W (ledger_after L n W r) (tree_after L t n W r) rest
 
 -- On the words of sound tables: what a call that is not refused reports, and the two tables that it leaves.
 abbrev pub done_on : List ℕ → List ℕ → Call → Report
-done_on sigs links (clear F) = bare 0
-done_on sigs links (file b s) = bare 0
-done_on sigs links (withdraw b) = bare 0
-done_on sigs links rebuild = bare 0
-done_on sigs links (search q) = search_report sigs links q
-done_on sigs links audit = bare 0
+done_on words links (clear F) = bare 0
+done_on words links (file b s) = bare 0
+done_on words links (withdraw b) = bare 0
+done_on words links rebuild = bare 0
+done_on words links (search q) = search_report (signatures_of words links) links (number_in q)
+done_on words links audit = bare 0
 
-abbrev pub signatures_after : List ℕ → List ℕ → Call → List ℕ
-signatures_after sigs links (clear F) = clear_signatures (length sigs)
-signatures_after sigs links (file b s) = file_signatures sigs b s
-signatures_after sigs links (withdraw b) = withdraw_signatures sigs b
-signatures_after sigs links rebuild = sigs
-signatures_after sigs links (search q) = sigs
-signatures_after sigs links audit = sigs
+abbrev pub lent_after : List ℕ → List ℕ → Call → List ℕ
+lent_after words links (clear F) = clear_words (blocks_of links) F
+lent_after words links (file b s) = file_words words links b s
+lent_after words links (withdraw b) = withdraw_words words links b
+lent_after words links rebuild = words
+lent_after words links (search q) = words
+lent_after words links audit = words
 
 abbrev pub links_after : List ℕ → List ℕ → Call → List ℕ
-links_after sigs links (clear F) = clear_links (length sigs) F
-links_after sigs links (file b s) = file_links sigs links b s
-links_after sigs links (withdraw b) = withdraw_links sigs links b
-links_after sigs links rebuild = rebuild_links sigs links
-links_after sigs links (search q) = links
-links_after sigs links audit = links
+links_after words links (clear F) = clear_links (blocks_of links) F
+links_after words links (file b s) = file_links (signatures_of words links) links b (number_in s)
+links_after words links (withdraw b) = withdraw_links (signatures_of words links) links b
+links_after words links rebuild = rebuild_links (signatures_of words links) links
+links_after words links (search q) = links
+links_after words links audit = links
 
 -- the tables that a call of this refusal number leaves, given to what comes next
 abbrev pub onward {ℓ} : {A : Type ℓ} → (List ℕ → List ℕ → A) → ℕ → List ℕ → List ℕ → Call → A
-onward next zero sigs links c = next (signatures_after sigs links c) (links_after sigs links c)
-onward next (suc n) sigs links c = next sigs links
+onward next zero words links c = next (lent_after words links c) (links_after words links c)
+onward next (suc n) words links c = next words links
 
 -- a call's line on the tables
 abbrev pub line_on : List ℕ → ℕ → List ℕ → List ℕ → Call → List ℕ
-line_on bytes zero sigs links c = line_of bytes (done_on sigs links c) (listed_by (ledger_of sigs links) c)
-line_on bytes (suc n) sigs links c = line_of bytes (bare (suc n)) []
+line_on bytes zero words links c = line_of bytes (done_on words links c) (listed_by (ledger_of (signatures_of words links) links) c)
+line_on bytes (suc n) words links c = line_of bytes (bare (suc n)) []
 
 -- one slip's line, then those that come next, on the tables that it leaves
 abbrev pub read_on : (List ℕ → List ℕ → List (List ℕ)) → Work → List ℕ → Reading → List ℕ → List ℕ → List (List ℕ)
-read_on next W bytes (refused n) sigs links = line_of bytes (bare n) [] ∷ next sigs links
-read_on next W bytes (carries c) sigs links =
-    line_on bytes (refusal (asks_tables sigs links) W c) sigs links c ∷ onward next (refusal (asks_tables sigs links) W c) sigs links c
+read_on next W bytes (refused n) words links = line_of bytes (bare n) [] ∷ next words links
+read_on next W bytes (carries c) words links =
+    line_on bytes (refusal (asks_tables words links) W c) words links c ∷ onward next (refusal (asks_tables words links) W c) words links c
 
 unfoldable pub lines_on : Work → List (List ℕ) → List ℕ → List ℕ → List (List ℕ)
-lines_on W [] sigs links = []
-lines_on W (bytes ∷ rest) sigs links = read_on (lines_on W rest) W bytes (read_slip bytes) sigs links
+lines_on W [] words links = []
+lines_on W (bytes ∷ rest) words links = read_on (lines_on W rest) W bytes (read_slip (asks_tables words links) bytes) words links
 
 -- the tree from the root of the tables after a run
 abbrev pub tree_read : (List ℕ → List ℕ → Tree) → Work → Reading → List ℕ → List ℕ → Tree
-tree_read next W (refused n) sigs links = next sigs links
-tree_read next W (carries c) sigs links = onward next (refusal (asks_tables sigs links) W c) sigs links c
+tree_read next W (refused n) words links = next words links
+tree_read next W (carries c) words links = onward next (refusal (asks_tables words links) W c) words links c
 
 unfoldable pub tree_on : Work → List (List ℕ) → List ℕ → List ℕ → Tree
-tree_on W [] sigs links = tree_of sigs links
-tree_on W (bytes ∷ rest) sigs links = tree_read (tree_on W rest) W (read_slip bytes) sigs links
+tree_on W [] words links = tree_of (signatures_of words links) links
+tree_on W (bytes ∷ rest) words links = tree_read (tree_on W rest) W (read_slip (asks_tables words links) bytes) words links
 
 -- On packed words: a call finds the tables that they hold, and leaves its own packed.
 abbrev pub packed_next {ℓ} : {A : Type ℓ} → (List ℕ → List ℕ → List ℕ → A) → List ℕ → List ℕ → A
-packed_next next sigs links = next sigs (packed_links (length sigs) links) (packed_nodes (length sigs) links)
+packed_next next words links = next words (packed_links (blocks_of links) links) (packed_nodes (blocks_of links) links)
 
 unfoldable pub lines_packed : Work → List (List ℕ) → List ℕ → List ℕ → List ℕ → List (List ℕ)
-lines_packed W [] sigs links nodes = []
-lines_packed W (bytes ∷ rest) sigs links nodes = read_on (packed_next (lines_packed W rest)) W bytes (read_slip bytes) sigs (unpacked links nodes)
+lines_packed W [] words links nodes = []
+lines_packed W (bytes ∷ rest) words links nodes =
+    read_on (packed_next (lines_packed W rest)) W bytes (read_slip (asks_packed words links nodes) bytes) words (unpacked links nodes)
 
 unfoldable pub tree_packed : Work → List (List ℕ) → List ℕ → List ℕ → List ℕ → Tree
-tree_packed W [] sigs links nodes = tree_of sigs (unpacked links nodes)
-tree_packed W (bytes ∷ rest) sigs links nodes = tree_read (packed_next (tree_packed W rest)) W (read_slip bytes) sigs (unpacked links nodes)
+tree_packed W [] words links nodes = tree_of (signatures_of words (unpacked links nodes)) (unpacked links nodes)
+tree_packed W (bytes ∷ rest) words links nodes =
+    tree_read (packed_next (tree_packed W rest)) W (read_slip (asks_packed words links nodes) bytes) words (unpacked links nodes)
 
 -- the longest of the paths of some signatures
 unfoldable pub longest_path : Tree → List ℕ → ℕ

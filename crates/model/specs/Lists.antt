@@ -1,8 +1,8 @@
--- Lists of calls (document 01, "The calls"): what is lent, what a call gives by the promise of the function that carries it out, and
--- a run of calls, each on the tables as the last one left them.
+-- Lists of calls (document 01, "The calls"; Ticket 9): what is lent, what a call gives by the promise of the function that carries it
+-- out, and a run of calls, each on the tables as the last one left them; a clear may be lent another signature slice.
 -- Assumes nothing.
-use Rattle.std.specs.Prelude.{ℕ, ◌≡◌, List, [], ◌∷◌}
-use Rattle.model.specs.Questions.{Work, Call, clear, file, withdraw, rebuild, search, audit, Reading, refused, carries, read_slip}
+use Rattle.std.specs.Prelude.{ℕ, ◌≡◌, true, false, List, [], ◌∷◌, eqb}
+use Rattle.model.specs.Questions.{Asked, asks_tables, Work, Call, clear, file, withdraw, rebuild, search, audit, Reading, refused, carries, read_slip}
 use Rattle.model.specs.Ledger.{Report, bare}
 use Rattle.model.specs.Promises.{ClearPromise, FilePromise, WithdrawPromise, RebuildPromise, AuditPromise, SearchPromise}
 
@@ -50,20 +50,55 @@ pub data Request : Type 0 where
   direct : Call → Request
   slip : List ℕ → Request
 
-unfoldable pub reading : Request → Reading
-reading (direct c) = carries c
-reading (slip bytes) = read_slip bytes
+unfoldable pub reading : Asked → Request → Reading
+reading A (direct c) = carries c
+reading A (slip bytes) = read_slip A bytes
 
--- One call of a list: the request, the slices lent to work in, what it reported, and the memory that it left.
+-- The signature slice lent with a call: the index's own, or another, of any length and content.
+pub data Slice : Type 0 where
+  own : Slice
+  another : List ℕ → Slice
+
+abbrev pub lent_slice : List ℕ → Slice → List ℕ
+lent_slice words own = words
+lent_slice words (another ws) = ws
+
+-- only a clear is carried out on another
+abbrev pub MayLend : Slice → Reading → Type 0
+MayLend own r = Unit {0}
+MayLend (another ws) (refused n) = Unit {0}
+MayLend (another ws) (carries c) = (F : ℕ) × (c ≡ clear F)
+
+-- the index's slice after a call that left words' in the slice lent: that one, or the old one where the call was refused
+abbrev pub slice_after : List ℕ → Slice → ℕ → List ℕ → List ℕ
+slice_after words own answer words' = words'
+slice_after words (another ws) answer words' = elim (eqb answer 0) [ true ↦ words' | false ↦ words ]
+
+-- One call of a list: the request, the signature slice and the slices to work in that it was lent, what it reported, and the memory
+-- that it left.
 pub record Step : Type 0 where
   pub request : Request
+  pub slice : Slice
   pub lent : Work
   pub report : Report
   pub left : Memory
 
+-- the memory lent with a step, where the index has these tables
+abbrev pub lent_to : List ℕ → List ℕ → Step → Memory
+lent_to words links s = record { signatures = lent_slice words s.slice; links = links; work = s.lent }
+
+-- the index's signature slice after a step
+abbrev pub words_after : List ℕ → Step → List ℕ
+words_after words s = slice_after words s.slice s.report.answer s.left.signatures
+
+-- what the step's request comes to, asked of the tables that are lent
+abbrev pub reading_on : List ℕ → List ℕ → Step → Reading
+reading_on words links s = reading (asks_tables (lent_slice words s.slice) links) s.request
+
 -- A run of steps from these tables.
 abbrev pub Run : List ℕ → List ℕ → List Step → Type 0
-Run sigs links [] = Unit {0}
-Run sigs links (s ∷ ss) =
-    GivesReading (reading s.request) (record { signatures = sigs; links = links; work = s.lent }) s.report s.left
-    × Run s.left.signatures s.left.links ss
+Run words links [] = Unit {0}
+Run words links (s ∷ ss) =
+    GivesReading (reading_on words links s) (lent_to words links s) s.report s.left
+    × MayLend s.slice (reading_on words links s)
+    × Run (words_after words s) s.left.links ss

@@ -1,7 +1,7 @@
 -- One word per node (Ticket 11). The tables of 5 * B + 2 links stay the definitions: Sound, the tree, and what each call
 -- leaves are said of them. The packed form holds the same tables in other slices: 2 * B + 5 links, and a word for each of B - 1 nodes.
 -- Assumes nothing.
-use Rattle.std.specs.Prelude.{ℕ, zero, suc, ◌+◌, ◌*◌, ◌/◌, ◌%◌, ◌^◌, List, [], ◌∷◌, ◌++◌, ◌≡◌, length, take, drop}
+use Rattle.std.specs.Prelude.{ℕ, zero, suc, ◌+◌, ◌-◌, ◌*◌, ◌/◌, ◌%◌, ◌^◌, List, [], ◌∷◌, ◌++◌, ◌≡◌, length, take, drop}
 
 -- a node's word: position times 2 ^ 34, plus left times 2 ^ 17, plus right
 abbrev pub node_word : ℕ → ℕ → ℕ → ℕ
@@ -42,6 +42,10 @@ closed (p ∷ l ∷ r ∷ ws) = node_word p l r ∷ closed ws
 -- how many links the packed form has: the five words and the rows
 abbrev pub rows_of : ℕ → ℕ
 rows_of B = 2 * B + 5
+
+-- B, told from them
+abbrev pub packed_blocks : List ℕ → ℕ
+packed_blocks links = (length links - 5) / 2
 
 -- the tables of 5 * B + 2 links that packed ones hold
 unfoldable pub unpacked : List ℕ → List ℕ → List ℕ

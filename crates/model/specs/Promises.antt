@@ -1,5 +1,5 @@
 -- What each public call promises (document 01, "The questions, in order" and "Before a delivery is taken"): its answer, its counts
--- and every slice that it is lent, from the slices as they were (sigs) to the slices as they are left (sigs'). Every call has three
+-- and every slice that it is lent, from the slices as they were (words) to the slices as they are left (words'). Every call has three
 -- cases: a question refuses; the tables are sound; and what must hold of any tables. There is no fourth.
 -- Assumes nothing.
 use Rattle.std.specs.Prelude.{ℕ, zero, suc, ◌-◌, ◌≤◌, ◌≡◌, ◌≢◌, ◌⊎◌, true, false, length, drop}
@@ -7,11 +7,12 @@ use mathlib.Core.List.{List, [], ◌∷◌, ◌++◌, Memᴰ}
 use Rattle.model.specs.Basics.{has, Ascending}
 use Rattle.model.specs.Signature.{coversb}
 use Rattle.model.specs.Tree.{compared, nodes_read}
-use Rattle.model.specs.Tables.{width_of, filed_of, signature_of, tree_of}
-use Rattle.model.specs.Sound.{Sound}
-use Rattle.model.specs.Clear.{clear_signatures, clear_links}
-use Rattle.model.specs.File.{file_signatures, file_links}
-use Rattle.model.specs.Withdraw.{withdraw_signatures, withdraw_links}
+use Rattle.model.specs.Wide.{number_in}
+use Rattle.model.specs.Tables.{blocks_of, signatures_of, width_of, filed_of, signature_of, tree_of}
+use Rattle.model.specs.Sound.{SoundLent}
+use Rattle.model.specs.Clear.{clear_words, clear_links}
+use Rattle.model.specs.File.{file_words, file_links}
+use Rattle.model.specs.Withdraw.{withdraw_words, withdraw_links}
 use Rattle.model.specs.Rebuild.{rebuild_links}
 use Rattle.model.specs.Questions.{asks_tables, clear_refusal, file_refusal, withdraw_refusal, rebuild_refusal, search_refusal, audit_refusal}
 use Rattle.model.specs.Ledger.{ledger_of, matching, Report, bare}
@@ -21,47 +22,49 @@ abbrev pub unsound : ℕ
 unsound = 11
 
 -- Clear: refused, or the cleared tables, whatever the old ones were.
-pub record ClearPromise (sigs links : List ℕ) (F : ℕ) (answer : ℕ) (sigs' links' : List ℕ) : Type 0 where
-  pub refused : clear_refusal (asks_tables sigs links) F ≢ 0 → (answer ≡ clear_refusal (asks_tables sigs links) F) × (sigs' ≡ sigs) × (links' ≡ links)
-  pub done : clear_refusal (asks_tables sigs links) F ≡ 0 → (answer ≡ 0) × (sigs' ≡ clear_signatures (length sigs)) × (links' ≡ clear_links (length sigs) F)
+pub record ClearPromise (words links : List ℕ) (F : ℕ) (answer : ℕ) (words' links' : List ℕ) : Type 0 where
+  pub refused : clear_refusal (asks_tables words links) F ≢ 0 → (answer ≡ clear_refusal (asks_tables words links) F) × (words' ≡ words) × (links' ≡ links)
+  pub done : clear_refusal (asks_tables words links) F ≡ 0 → (answer ≡ 0) × (words' ≡ clear_words (blocks_of links) F) × (links' ≡ clear_links (blocks_of links) F)
 
--- A change of the tables, by the number of its first no, to the signatures sigs⁺ and the links links⁺.
-pub record Changes (refusal : ℕ) (sigs links sigs⁺ links⁺ : List ℕ) (answer : ℕ) (sigs' links' : List ℕ) : Type 0 where
+-- A change of the tables, by the number of its first no, to the words words⁺ and the links links⁺.
+pub record Changes (refusal : ℕ) (words links words⁺ links⁺ : List ℕ) (answer : ℕ) (words' links' : List ℕ) : Type 0 where
   -- the first no decides, and nothing changes
-  pub refused : refusal ≢ 0 → (answer ≡ refusal) × (sigs' ≡ sigs) × (links' ≡ links)
+  pub refused : refusal ≢ 0 → (answer ≡ refusal) × (words' ≡ words) × (links' ≡ links)
   -- sound tables get 0 and these tables
-  pub done : refusal ≡ 0 → Sound sigs links → (answer ≡ 0) × (sigs' ≡ sigs⁺) × (links' ≡ links⁺)
+  pub done : refusal ≡ 0 → SoundLent words links → (answer ≡ 0) × (words' ≡ words⁺) × (links' ≡ links⁺)
   -- any tables get 0, and the slices stay as long as they were, or 11, and nothing changes
   pub anyway : refusal ≡ 0
-      → ((answer ≡ 0) × (length sigs' ≡ length sigs) × (length links' ≡ length links)) ⊎ ((answer ≡ unsound) × (sigs' ≡ sigs) × (links' ≡ links))
+      → ((answer ≡ 0) × (length words' ≡ length words) × (length links' ≡ length links)) ⊎ ((answer ≡ unsound) × (words' ≡ words) × (links' ≡ links))
 
--- File
-abbrev pub FilePromise : List ℕ → List ℕ → ℕ → ℕ → ℕ → List ℕ → List ℕ → Type 0
-FilePromise sigs links b s = Changes (file_refusal (asks_tables sigs links) b s) sigs links (file_signatures sigs b s) (file_links sigs links b s)
+-- File, by the signature's words
+abbrev pub FilePromise : List ℕ → List ℕ → ℕ → List ℕ → ℕ → List ℕ → List ℕ → Type 0
+FilePromise words links b s =
+    Changes (file_refusal (asks_tables words links) b s) words links (file_words words links b s) (file_links (signatures_of words links) links b (number_in s))
 
 -- Withdraw
 abbrev pub WithdrawPromise : List ℕ → List ℕ → ℕ → ℕ → List ℕ → List ℕ → Type 0
-WithdrawPromise sigs links b = Changes (withdraw_refusal (asks_tables sigs links) b) sigs links (withdraw_signatures sigs b) (withdraw_links sigs links b)
+WithdrawPromise words links b =
+    Changes (withdraw_refusal (asks_tables words links) b) words links (withdraw_words words links b) (withdraw_links (signatures_of words links) links b)
 
 -- A rebuilding of sound tables: the scratch is free in its first B words and unchanged beyond.
-pub record Rebuilt (sigs links scratch : List ℕ) (answer : ℕ) (links' scratch' : List ℕ) : Type 0 where
-  pub sound : Sound sigs links
+pub record Rebuilt (words links scratch : List ℕ) (answer : ℕ) (links' scratch' : List ℕ) : Type 0 where
+  pub sound : SoundLent words links
   pub zero : answer ≡ 0
-  pub words : links' ≡ rebuild_links sigs links
+  pub made : links' ≡ rebuild_links (signatures_of words links) links
   pub long : length scratch' ≡ length scratch
-  pub beyond : drop (length sigs) scratch' ≡ drop (length sigs) scratch
+  pub beyond : drop (blocks_of links) scratch' ≡ drop (blocks_of links) scratch
 
 -- Rebuild: question 11 is asked in full.
-pub record RebuildPromise (sigs links scratch : List ℕ) (answer : ℕ) (links' scratch' : List ℕ) : Type 0 where
-  pub refused : rebuild_refusal (asks_tables sigs links) (length scratch) ≢ 0
-      → (answer ≡ rebuild_refusal (asks_tables sigs links) (length scratch)) × (links' ≡ links) × (scratch' ≡ scratch)
-  pub asked : rebuild_refusal (asks_tables sigs links) (length scratch) ≡ 0
-      → Rebuilt sigs links scratch answer links' scratch' ⊎ ((Sound sigs links → ⊥) × (answer ≡ unsound) × (links' ≡ links) × (scratch' ≡ scratch))
+pub record RebuildPromise (words links scratch : List ℕ) (answer : ℕ) (links' scratch' : List ℕ) : Type 0 where
+  pub refused : rebuild_refusal (asks_tables words links) (length scratch) ≢ 0
+      → (answer ≡ rebuild_refusal (asks_tables words links) (length scratch)) × (links' ≡ links) × (scratch' ≡ scratch)
+  pub asked : rebuild_refusal (asks_tables words links) (length scratch) ≡ 0
+      → Rebuilt words links scratch answer links' scratch' ⊎ ((SoundLent words links → ⊥) × (answer ≡ unsound) × (links' ≡ links) × (scratch' ≡ scratch))
 
 -- Audit: it only reads.
-pub record AuditPromise (sigs links : List ℕ) (answer : ℕ) : Type 0 where
-  pub refused : audit_refusal (asks_tables sigs links) ≢ 0 → answer ≡ audit_refusal (asks_tables sigs links)
-  pub asked : audit_refusal (asks_tables sigs links) ≡ 0 → ((answer ≡ 0) × Sound sigs links) ⊎ ((answer ≡ unsound) × (Sound sigs links → ⊥))
+pub record AuditPromise (words links : List ℕ) (answer : ℕ) : Type 0 where
+  pub refused : audit_refusal (asks_tables words links) ≢ 0 → answer ≡ audit_refusal (asks_tables words links)
+  pub asked : audit_refusal (asks_tables words links) ≡ 0 → ((answer ≡ 0) × SoundLent words links) ⊎ ((answer ≡ unsound) × (SoundLent words links → ⊥))
 
 -- A search's marks: of the n blocks from b on, 1 for each listed block, else 0
 unfoldable pub marks_from : List ℕ → ℕ → ℕ → List ℕ
@@ -112,17 +115,20 @@ search_report sigs links q = record {
   bits = nodes_read (width_of links) q (tree_of sigs links);
 }
 
--- Search
-pub record SearchPromise (sigs links : List ℕ) (q : ℕ) (marks output : List ℕ) (o : Report) (marks' output' : List ℕ) : Type 0 where
+-- A search for q of the tables of these signatures, by the number of its first no.
+pub record Searches (refusal : ℕ) (sound : Type 0) (sigs links : List ℕ) (q : ℕ) (marks output : List ℕ) (o : Report) (marks' output' : List ℕ) : Type 0 where
   -- the first no decides; counts are 0, and nothing changes
-  pub refused : search_refusal (asks_tables sigs links) q (length marks) (length output) ≢ 0
-      → (o ≡ bare (search_refusal (asks_tables sigs links) q (length marks) (length output))) × (marks' ≡ marks) × (output' ≡ output)
+  pub refused : refusal ≢ 0 → (o ≡ bare refusal) × (marks' ≡ marks) × (output' ≡ output)
   -- sound tables get 0, the list of all blocks that match, its marks, and the counts of the tree
-  pub done : search_refusal (asks_tables sigs links) q (length marks) (length output) ≡ 0
-      → Sound sigs links
+  pub done : refusal ≡ 0
+      → sound
       → (o ≡ search_report sigs links q)
       × (marks' ≡ marks_after (length sigs) (matching q (ledger_of sigs links)) marks)
       × (output' ≡ output_after (matching q (ledger_of sigs links)) output)
   -- any tables get a list without a wrong block, or 11
-  pub anyway : search_refusal (asks_tables sigs links) q (length marks) (length output) ≡ 0
-      → Listing sigs links q marks output o marks' output' ⊎ GivenUp sigs marks output o marks' output'
+  pub anyway : refusal ≡ 0 → Listing sigs links q marks output o marks' output' ⊎ GivenUp sigs marks output o marks' output'
+
+-- Search, by the query's words
+abbrev pub SearchPromise : List ℕ → List ℕ → List ℕ → List ℕ → List ℕ → Report → List ℕ → List ℕ → Type 0
+SearchPromise words links q marks output =
+    Searches (search_refusal (asks_tables words links) q (length marks) (length output)) (SoundLent words links) (signatures_of words links) links (number_in q) marks output

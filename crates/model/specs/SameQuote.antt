@@ -2,31 +2,41 @@
 -- set of stored signatures alone: not on how the tree had grown, nor on which blocks have the signatures, nor on how many blocks there are.
 -- Assumes nothing: this is the statement, and its proof stands elsewhere.
 use Rattle.std.specs.Prelude.{ℕ, ◌≤◌, ◌≡◌, true, List, [], ◌∷◌, ◌++◌, take}
+use Rattle.model.specs.Wide.{number_in}
 use Rattle.model.specs.Tree.{Tree}
 use Rattle.model.specs.Packed.{unpacked}
 use Rattle.model.specs.Questions.{Call, rebuild, search, carries}
 use Rattle.model.specs.Ledger.{Ledger, is_stored, entry_of, ledger_after}
-use Rattle.model.specs.Lists.{Memory, reading, Step, Run}
-use Rattle.model.specs.Claim.{Begins}
+use Rattle.model.specs.Lists.{Step, words_after, Run}
+use Rattle.model.specs.Claim.{Begins, lent_with, reading_by}
 use Rattle.model.specs.PackedPromises.{packed_fit}
 use Rattle.model.specs.PackedLists.{PackedStep, held_steps, PackedRun}
 
 -- A list of calls that was run, from tables that hold the ledger L and the plain tree t: sound ones, or ones never cleared, in either form.
 -- The steps of packed tables are told as steps of the tables that they hold.
-pub data Ran (L : Ledger) (t : Tree) : List Step → Type 0 where
-  run : (sigs links : List ℕ) → Begins sigs links L t → (ss : List Step) → Run sigs links ss → Ran L t ss
-  packed_run : (sigs links nodes : List ℕ) → packed_fit sigs links nodes ≡ true → Begins sigs (unpacked links nodes) L t
-      → (us : List PackedStep) → PackedRun sigs links nodes us → Ran L t (held_steps us)
+pub data Ran (L : Ledger) (t : Tree) (words : List ℕ) : List Step → Type 0 where
+  run : (links : List ℕ) → Begins words links L t → (ss : List Step) → Run words links ss → Ran L t words ss
+  packed_run : (links nodes : List ℕ) → packed_fit links nodes ≡ true → Begins words (unpacked links nodes) L t
+      → (us : List PackedStep) → PackedRun words links nodes us → Ran L t words (held_steps us)
 
--- the step asks for this call, directly or by a slip, and it is carried out
-pub record Accepted (c : Call) (s : Step) : Type 0 where
-  pub asks : reading s.request ≡ carries c
+-- the ledger after a list of calls, and the index's signature slice
+abbrev pub ledger_end : Ledger → List ℕ → List Step → Ledger
+ledger_end L words [] = L
+ledger_end L words (s ∷ ss) = ledger_end (ledger_after L (lent_with words s) s.lent (reading_by L words s)) (words_after words s) ss
+
+abbrev pub words_end : List ℕ → List Step → List ℕ
+words_end words [] = words
+words_end words (s ∷ ss) = words_end (words_after words s) ss
+
+-- the step after these asks for this call, directly or by a slip, and it is carried out
+pub record Accepted (c : Call) (L : Ledger) (words : List ℕ) (before : List Step) (s : Step) : Type 0 where
+  pub asks : reading_by (ledger_end L words before) (words_end words before) s ≡ carries c
   pub zero : s.report.answer ≡ 0
 
 -- calls that leave the tables as they are: other searches, audits, whatever is refused
-abbrev pub Still : Memory → List Step → Type 0
-Still M [] = Unit {0}
-Still M (s ∷ ss) = (s.left.signatures ≡ M.signatures) × (s.left.links ≡ M.links) × Still M ss
+abbrev pub Still : List ℕ → List ℕ → List Step → Type 0
+Still words links [] = Unit {0}
+Still words links (s ∷ ss) = (words_after words s ≡ words) × (s.left.links ≡ links) × Still words links ss
 
 -- An index that is rebuilt and then asked: any calls, a rebuild that is carried out, calls that leave the tables as they are, and a search
 -- for q that is not refused. The slices lent to work in may be any.
@@ -34,24 +44,23 @@ pub record Quoted (q : ℕ) : Type 0 where
   -- at the start
   pub ledger : Ledger
   pub tree : Tree
+  pub words : List ℕ
   -- the steps in their order, and what they have to be
   pub calls : List Step
   pub rebuilt : Step
   pub between : List Step
   pub searched : Step
-  pub ran : Ran ledger tree (calls ++ (rebuilt ∷ (between ++ (searched ∷ []))))
-  pub rebuilds : Accepted rebuild rebuilt
-  pub still : Still rebuilt.left between
-  pub searches : Accepted (search q) searched
-
--- the ledger after a list of calls
-abbrev pub ledger_end : Ledger → List Step → Ledger
-ledger_end L [] = L
-ledger_end L (s ∷ ss) = ledger_end (ledger_after L s.lent (reading s.request)) ss
+  -- the query's words
+  pub query : List ℕ
+  pub asked : number_in query ≡ q
+  pub ran : Ran ledger tree words (calls ++ (rebuilt ∷ (between ++ (searched ∷ []))))
+  pub rebuilds : Accepted rebuild ledger words calls rebuilt
+  pub still : Still (words_after (words_end words calls) rebuilt) rebuilt.left.links between
+  pub searches : Accepted (search query) ledger words (calls ++ (rebuilt ∷ between)) searched
 
 -- the ledger that the calls before the rebuild end in
 abbrev pub ends_in : {q : ℕ} → Quoted q → Ledger
-ends_in I = ledger_end I.ledger I.calls
+ends_in I = ledger_end I.ledger I.words I.calls
 
 -- two ledgers of the same width
 abbrev pub SameWidth : Ledger → Ledger → Type 0

@@ -1,11 +1,12 @@
 -- Sound tables (document 01, "The tables"), clause by clause. The tree that the links spell is carried as data, so that a clause
 -- about "each node met from the root" is a predicate by recursion on it. That nodes and blocks are distinct is implied, not said.
 -- Assumes nothing.
-use Rattle.std.specs.Prelude.{ℕ, zero, suc, ◌+◌, ◌^◌, ◌≤◌, ◌<◌, ◌≡◌, ◌⊎◌, length}
+use Rattle.std.specs.Prelude.{ℕ, zero, suc, ◌+◌, ◌*◌, ◌^◌, ◌≤◌, ◌<◌, ◌≡◌, ◌⊎◌, length}
 use mathlib.Core.List.{List, [], ◌∷◌, ◌++◌, Memᴰ}
 use Rattle.model.specs.Limits.{widest, most_blocks}
 use Rattle.model.specs.Tree.{Edge, edge, Agrees, Untested}
-use Rattle.model.specs.Tables.{links_of, width_of, told_blocks, root_of, free_of, count_of, next_of, filed_of, position_of, left_of, right_of, signature_of}
+use Rattle.model.specs.Tables.{links_of, width_of, told_blocks, root_of, free_of, count_of, next_of, filed_of, position_of, left_of, right_of, signature_of, blocks_of, signatures_of}
+use Rattle.model.specs.Wide.{word_count}
 
 -- What the links spell from a reference: a leaf with the head of its chain and the blocks after it, or node i with its position and its two sides.
 pub data Shape : Type 0 where
@@ -102,6 +103,11 @@ pub record SoundAt (B F : ℕ) (sigs links : List ℕ) : Type 0 where
   pub free_outside : (i : ℕ) → Memᴰ i free → Memᴰ i (nodes_in tree) → ⊥
   pub free_all : (i : ℕ) → 1 ≤ i → i < B → Memᴰ i (nodes_in tree) ⊎ Memᴰ i free
 
--- Sound tables: B is told from the signature slice's length, F from word 0.
+-- Sound tables of these signatures: F is told from word 0.
 abbrev pub Sound : List ℕ → List ℕ → Type 0
 Sound sigs links = SoundAt (length sigs) (width_of links) sigs links
+
+-- Sound tables as they are lent: the signature slice has as many words as B signatures of width F, and what they spell is sound.
+pub record SoundLent (words links : List ℕ) : Type 0 where
+  pub long : length words ≡ blocks_of links * word_count (width_of links)
+  pub sound : Sound (signatures_of words links) links

@@ -1,7 +1,9 @@
--- The tables (document 01, "The tables"): the words of the two lent slices, as lists. B is the number of blocks.
--- One place knows where a word stands; all else reads rows, nodes and signatures through the readers below.
+-- The tables (document 01, "The tables"): the words of the two lent slices, as lists. B is the number of blocks, told from the links.
+-- One place knows where a word stands; all else reads rows, nodes and signatures through the readers below. The signatures are read as
+-- the list of their B numbers, whatever the width: `signatures_of` is the step from the lent words to them.
 -- Assumes nothing.
-use Rattle.std.specs.Prelude.{ℕ, zero, suc, ◌+◌, ◌-◌, ◌*◌, true, false, List, eqb, leb, length, get_or}
+use Rattle.std.specs.Prelude.{ℕ, zero, suc, ◌+◌, ◌-◌, ◌*◌, true, false, List, eqb, leb, length, get_or, ◌/◌}
+use Rattle.model.specs.Wide.{word_count, signatures_in}
 use Rattle.model.specs.Tree.{Tree, nothing, leaf, node}
 
 -- word a of the links
@@ -42,6 +44,10 @@ right_at B i = side_at B i 1
 abbrev pub links_of : ℕ → ℕ
 links_of B = 5 * B + 2
 
+-- B, told from the links
+abbrev pub blocks_of : List ℕ → ℕ
+blocks_of links = (length links - 2) / 5
+
 -- Readers.
 abbrev pub width_of : List ℕ → ℕ
 width_of links = word links 0
@@ -76,7 +82,11 @@ left_of B links i = side_of B links i 0
 abbrev pub right_of : ℕ → List ℕ → ℕ → ℕ
 right_of B links i = side_of B links i 1
 
--- block b's signature, at index b - 1
+-- the B signatures that the words of the signature slice spell, as numbers
+abbrev pub signatures_of : List ℕ → List ℕ → List ℕ
+signatures_of words links = signatures_in (word_count (width_of links)) (blocks_of links) words
+
+-- block b's signature, at index b - 1 of them
 abbrev pub signature_of : List ℕ → ℕ → ℕ
 signature_of sigs b = get_or sigs (b - 1) 0
 

@@ -1,6 +1,7 @@
 -- The tables that Withdraw leaves (document 01, "The calls").
 -- Assumes nothing.
-use Rattle.std.specs.Prelude.{ℕ, zero, suc, ◌-◌, true, false, List, [], ◌∷◌, eqb, leb, length, set}
+use Rattle.std.specs.Prelude.{ℕ, zero, suc, ◌-◌, true, false, List, [], ◌∷◌, eqb, leb, length, set, replicate}
+use Rattle.model.specs.Wide.{word_count, set_words}
 use Rattle.model.specs.Signature.{bit_at}
 use Rattle.model.specs.Tables.{word, root_at, free_at, count_at, next_at, filed_at, position_at, side_at, left_at, right_at, width_of, root_of, free_of, count_of, next_of, position_of, signature_of}
 use Rattle.model.specs.Stores.{Store, ◌↤◌, stores}
@@ -60,7 +61,10 @@ withdraw_stores B F links b s at h up =
       ]
     ]
 
--- Withdraw: the signatures and the links that it leaves
+-- Withdraw: the signatures and the links that it leaves; the block's words become 0
+abbrev pub withdraw_words : List ℕ → List ℕ → ℕ → List ℕ
+withdraw_words words links b = set_words (word_count (width_of links)) words b (replicate (word_count (width_of links)) 0)
+
 abbrev pub withdraw_signatures : List ℕ → ℕ → List ℕ
 withdraw_signatures sigs b = set sigs (b - 1) 0
 

@@ -5,6 +5,7 @@ use Rattle.std.specs.Prelude.{ℕ, zero, suc, ◌+◌, ◌*◌, ◌-◌, ◌%◌
 use Rattle.std.specs.Int.Bits.{bit_or}
 use Rattle.std.specs.Borrow.{Bor}
 use Rattle.model.specs.Basics.{keep}
+use Rattle.model.specs.Wide.{word_count, words_for}
 use Rattle.model.specs.Questions.{width_fits, ask}
 
 -- the longest text
@@ -122,9 +123,9 @@ text_signature F K text = or_over F K (words_of text)
 unfoldable pub word_refusal : List ℕ → ℕ
 word_refusal text = ask 12 (leb (length text) longest_text) 0
 
--- the signer asks 4 for F, then 12 and 13
-unfoldable pub sign_refusal : ℕ → ℕ → List ℕ → ℕ
-sign_refusal F K text = ask 4 (width_fits F) (ask 12 (leb (length text) longest_text) (ask 13 (leb 1 K && leb K most_positions) 0))
+-- the signer asks 4 for F and for W lent words, n being lent, then 12 and 13
+unfoldable pub sign_refusal : ℕ → ℕ → ℕ → List ℕ → ℕ
+sign_refusal F K n text = ask 4 (width_fits F && eqb n (word_count F)) (ask 12 (leb (length text) longest_text) (ask 13 (leb 1 K && leb K most_positions) 0))
 
 -- ---- the promises
 
@@ -145,7 +146,7 @@ pub record PlacePromise (text : List ℕ) (n answer start size : ℕ) : Type 0 w
   pub refused : word_refusal text ≢ 0 → (answer ≡ word_refusal text) × (record { start = start; size = size } ≡ end_of text)
   pub done : word_refusal text ≡ 0 → (answer ≡ 0) × (record { start = start; size = size } ≡ word_at text n)
 
--- The signer: refused, the signature 0, else the text's.
-pub record SignPromise (F K : ℕ) (text : List ℕ) (answer signature : ℕ) : Type 0 where
-  pub refused : sign_refusal F K text ≢ 0 → (answer ≡ sign_refusal F K text) × (signature ≡ 0)
-  pub done : sign_refusal F K text ≡ 0 → (answer ≡ 0) × (signature ≡ text_signature F K text)
+-- The signer, lent some words: refused, they are untouched, else they are the words of the text's signature, high word first.
+pub record SignPromise (F K : ℕ) (text lent : List ℕ) (answer : ℕ) (words : List ℕ) : Type 0 where
+  pub refused : sign_refusal F K (length lent) text ≢ 0 → (answer ≡ sign_refusal F K (length lent) text) × (words ≡ lent)
+  pub done : sign_refusal F K (length lent) text ≡ 0 → (answer ≡ 0) × (words ≡ words_for (word_count F) (text_signature F K text))

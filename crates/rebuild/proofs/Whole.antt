@@ -7,7 +7,7 @@ use mathlib.Core.Path.{◌≡◌, refl, sym, ◌∙◌, ap, ap₂, subst}
 use mathlib.Core.List.{List, [], ◌∷◌, ◌++◌, Memᴰ}
 use lib.ListN.{length, get_or, set, take, drop, length-set, length-append, length-drop}
 use lib.Seq.{sets, sets-eq, length-sets, length-take-le, take_at, drop_at, drop-drop, get_or-take}
-use Rattle.model.specs.Tables.{links_of, position_at, width_of, root_of}
+use Rattle.model.specs.Tables.{position_at, width_of, root_of}
 use Rattle.model.specs.Packed.{unpacked, Packs}
 use Rattle.model.proofs.Packing.{row_store, front_word}
 use Rattle.model.specs.Sound.{Sound}
@@ -94,11 +94,10 @@ module _ {sigs links l l1 : List ℕ} {d : ℕ} (K : Collected sigs links l l1 d
   group = record { from = S.fits.width_from; to = S.fits.width_to; blocks = all_blocks B heads G.blocks; below = all_below sigs links S; apart = G.apart }
 
   -- what the call that builds the tree asks
-  build_asks : (reference free : ℕ) → Group (width_of links) sigs (take d l1)
-      × (((length sigs ≤ 65535) × (length (set (set links 2 reference) 3 free) ≡ links_of (length sigs))) × ((1 ≤ 1) × (1 + length (take d l1) ≤ length sigs + 1)))
-  build_asks reference free =
+  build_asks : Group (width_of links) sigs (take d l1) × ((1 ≤ 1) × (1 + length (take d l1) ≤ length sigs + 1))
+  build_asks =
       let n = length-take-le d l1 fits in
-      (rw collected group, ((S.fits.blocks_to, simp length-set S.fits.links_long), omega (arith, few)))
+      (rw collected group, omega (arith, few))
 
   -- the root's reference
   root : reference_to d (get_or l1 0 0) (length sigs + 1) ≡ group_reference (length sigs) (heads_of sigs links) 1
@@ -158,20 +157,22 @@ module _ (sigs links nodes : List ℕ) (P : Packs (length sigs) links nodes) whe
   walk_read S = rw (← width_read, ← front_word (length sigs) links nodes P 2 (omega arith)) (sound_walk sigs U S)
 
   module _ {l l1 : List ℕ} {d : ℕ} (K : Collected sigs (unpacked links nodes) l l1 d) where
-    pub asks_packed : Group (width_of links) sigs (take d l1)
-        × (((length sigs ≤ 65535) × (length nodes + 1 ≡ length sigs)) × ((1 ≤ 1) × (1 + length (take d l1) ≤ length sigs + 1)))
+    pub asks_packed : Group (width_of links) sigs (take d l1) × ((1 ≤ 1) × (1 + length (take d l1) ≤ length sigs + 1))
     asks_packed =
-        let a = build_asks K 0 0 in
-        (subst (λ (F : ℕ). Group F sigs (take d l1)) width_read a.0, ((a.1.0.0, P.nodes_long), a.1.1))
+        let a = build_asks K in
+        (subst (λ (F : ℕ). Group F sigs (take d l1)) width_read a.0, a.1)
 
-    pub whole_packed : (first reference free : ℕ) (l₂ n₁ n₂ : List ℕ) → first ≡ max 1 d → reference ≡ reference_to d (get_or l1 0 0) (length sigs + 1) → free ≡ free_from (length sigs) first
+    -- by the number of blocks b that the code has
+    pub whole_packed : (b : ℕ) → length sigs ≡ b → (first reference free : ℕ) (l₂ n₁ n₂ : List ℕ) → first ≡ max 1 d → reference ≡ reference_to d (get_or l1 0 0) (b + 1) → free ≡ free_from b first
         → l₂ ≡ set (set links 2 reference) 3 free
         → unpacked l₂ n₁ ≡ sets (unpacked l₂ nodes) (position_at (length sigs) 1) (group_nodes (length (take d l1)) (width_of links) sigs (take d l1) 1)
-        → unpacked l₂ n₂ ≡ sets (unpacked l₂ n₁) (position_at (length sigs) first) (free_nodes (length sigs - first) first) → unpacked l₂ n₂ ≡ rebuild_links sigs (unpacked links nodes)
-    whole_packed first reference free l₂ n₁ n₂ ef er ez el e₁ e₂ =
+        → unpacked l₂ n₂ ≡ sets (unpacked l₂ n₁) (position_at b first) (free_nodes (b - first) first) → unpacked l₂ n₂ ≡ rebuild_links sigs (unpacked links nodes)
+    whole_packed b n first reference free l₂ n₁ n₂ ef er ez el e₁ e₂ =
+        let m = sym n in
         let a : unpacked l₂ nodes ≡ set (set U 2 reference) 3 free =
         ap (λ (x : List ℕ). unpacked x nodes) el
         ∙ sym (row_store (set links 2 reference) nodes 3 free (simp length-set (omega (arith, P.rows_long))))
         ∙ ap (λ (x : List ℕ). set x 3 free) (sym (row_store links nodes 2 reference (omega (arith, P.rows_long)))) in
-        whole K first reference free (unpacked l₂ n₁) (unpacked l₂ n₂) ef er ez
-        (e₁ ∙ ap₂ (λ (x : List ℕ) (F : ℕ). sets x (position_at (length sigs) 1) (group_nodes (length (take d l1)) F sigs (take d l1) 1)) a (sym width_read)) e₂
+        whole K first reference free (unpacked l₂ n₁) (unpacked l₂ n₂) ef (er ∙ ap (λ (k : ℕ). reference_to d (get_or l1 0 0) (k + 1)) m) (ez ∙ ap (λ (k : ℕ). free_from k first) m)
+        (e₁ ∙ ap₂ (λ (x : List ℕ) (F : ℕ). sets x (position_at (length sigs) 1) (group_nodes (length (take d l1)) F sigs (take d l1) 1)) a (sym width_read))
+        (e₂ ∙ ap (λ (k : ℕ). sets (unpacked l₂ n₁) (position_at k first) (free_nodes (k - first) first)) m)

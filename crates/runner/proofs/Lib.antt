@@ -1,4 +1,5 @@
+pub mod Lengths
 pub mod Turns
 pub mod Taken
-pub mod Right
 pub mod Same
+pub mod Right

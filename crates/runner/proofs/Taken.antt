@@ -1,21 +1,22 @@
 -- The slips that a reader gives: what reads take of its known bytes, and the whole slips of the bytes so far.
 -- Assumes nothing.
-use Prim.Native.Nat.{ℕ, zero, suc, ◌+◌, ◌*◌, ◌/◌, ◌≤◌}
+use Prim.Native.Nat.{ℕ, ◌+◌, ◌≤◌}
 use native.Mathlib.Omega.{arith}
-use mathlib.Core.Path.{◌≡◌, refl, sym, ◌∙◌, ap, ap₂, subst}
-use mathlib.Core.List.{List, [], ◌∷◌, ◌++◌, append_assoc, append-nil}
-use lib.ListN.{length, take, drop, length-append, length-drop, take-append-drop}
-use lib.Seq.{length-take-le, drop_at}
+use mathlib.Core.Path.{◌≡◌, refl, sym, ◌∙◌, ap, subst}
+use mathlib.Core.List.{List, [], ◌++◌, append_assoc, append-nil}
+use lib.ListN.{length, take, drop, take-append-drop}
+use lib.Seq.{length-take-le}
 use Rattle.std.specs.Prelude.{Option, None, Some, Result, Ok, Err}
 use Rattle.std.specs.Io.KnownBytes.{Keeps, Consumes, ReadConsumes}
 use Rattle.std.specs.Result.{result_unwrap_or}
 use Rattle.std.proofs.Math.Seq.{take-append-add}
-use Rattle.std.proofs.lemmas.List.{drop-append-le, take-append-le}
+use Rattle.std.proofs.lemmas.List.{take-append-le}
 use Rattle.std.proofs.lemmas.Slice.{take-put_mid_below}
 use borrow.Rule.Slice.PartMut.{put_mid}
 use Rattle.model.specs.PackedLists.{PackedMemory}
-use Rattle.runner.specs.Served.{InTurn, none, slips_in, short_slip, slips_of, Drained, Ended, Whole, Took, Ran}
-use Rattle.runner.proofs.Turns.{slips_cut, joined}
+use Rattle.runner.specs.Served.{NoSlip, none, nothing, Drained, Ended, Whole, Took}
+use Rattle.runner.proofs.Lengths.{size_some}
+use Rattle.runner.proofs.Turns.{joined}
 
 -- no byte, and bytes after bytes
 pub consumes_none : (b : Option (List ℕ)) → Consumes b b []
@@ -38,18 +39,9 @@ pub consumes_read : {E : Type 0} (a b : Option (List ℕ)) (r : Result ℕ E) (r
 consumes_read a b (Ok m) room n e p = rw e (p.0)
 consumes_read a b (Err x) room n e p = rw e (keeps a b p)
 
--- the slips at the front do not depend on what follows
-slips_front : (ys zs : List ℕ) (k : ℕ) → 16 * k ≤ length ys → slips_in (ys ++ zs) k ≡ slips_in ys k
-unfolding slips_in
-slips_front ys zs zero h = refl
-slips_front ys zs (suc k) h =
-    ap₂ (λ (s : List (List ℕ)) (x : List ℕ). s ++ (x ∷ [])) (slips_front ys zs k (omega (arith, h)))
-    (ap (take 16) (drop-append-le (16 * k) ys zs (omega (arith, h))) ∙ take-append-le 16 (drop (16 * k) ys) zs (omega (arith, h, length-drop (16 * k) ys)))
-
 -- nothing is read at the start
 pub whole_none : (b : Option (List ℕ)) (M : PackedMemory) → Whole b b M M []
-unfolding slips_in
-whole_none b M = record { bytes = []; count = 0; whole = refl; short = omega arith; taken = consumes_none b; text = []; turns = none }
+whole_none b M = record { bytes = []; taken = consumes_none b; text = []; turns = none; all = size_some M.links 0 }
 
 -- what stands in front once bytes are read behind those that are kept
 read_behind : (bytes room : List ℕ) (kept k n : ℕ) → kept ≤ length bytes → n ≤ length room → take (kept + n) (put_mid kept k bytes room) ≡ take kept bytes ++ take n room
@@ -63,29 +55,19 @@ read_behind bytes room kept k n h l =
 whole_more : (b b₁ b₂ : Option (List ℕ)) (M M₁ M₂ : PackedMemory) (left got all : List ℕ) (r : ℕ) (left' : List ℕ)
     → Whole b b₁ M M₁ left → Consumes b₁ b₂ got → all ≡ left ++ got → Drained all M₁ M₂ r → left' ≡ drop r all → Whole b b₂ M M₂ left'
 whole_more b b₁ b₂ M M₁ M₂ left got all r left' w t a d e =
-    let k = length all / 16 in
     let front = take r all in
-    let long : length front ≡ r = length-take-le r all (omega (arith, d.whole)) in
-    let parts : front ++ drop r all ≡ all = take-append-drop r all in
-    let before : slips_in (w.bytes ++ front) w.count ≡ slips_in w.bytes w.count = slips_front w.bytes front w.count (omega (arith, w.whole)) in
-    let after : slips_in (drop (16 * w.count) (w.bytes ++ front)) k ≡ slips_in all k =
-    ap (λ (l : List ℕ). slips_in l k) (drop_at w.bytes front (16 * w.count) w.whole)
-    ∙ sym (slips_front front (drop r all) k (omega (arith, long, d.whole))) ∙ ap (λ (l : List ℕ). slips_in l k) parts
-    in
-    let cut : slips_in (w.bytes ++ front) (w.count + k) ≡ slips_in w.bytes w.count ++ slips_in all k =
-    slips_cut (w.bytes ++ front) w.count k ∙ ap₂ (λ (s t : List (List ℕ)). s ++ t) before after
-    in
     let read : (w.bytes ++ left) ++ got ≡ (w.bytes ++ front) ++ left' =
-    append_assoc w.bytes left got ∙ ap (λ (l : List ℕ). w.bytes ++ l) (sym a ∙ sym parts) ∙ sym (append_assoc w.bytes front (drop r all)) ∙ ap (λ (l : List ℕ). (w.bytes ++ front) ++ l) (sym e)
+    append_assoc w.bytes left got
+    ∙ ap (λ (l : List ℕ). w.bytes ++ l) (sym a ∙ sym (take-append-drop r all))
+    ∙ sym (append_assoc w.bytes front (drop r all))
+    ∙ ap (λ (l : List ℕ). (w.bytes ++ front) ++ l) (sym e)
     in
     record {
       bytes = w.bytes ++ front;
-      count = w.count + k;
-      whole = omega (arith, length-append w.bytes front, long, d.whole, w.whole);
-      short = omega (arith, ap length e, length-drop r all, d.whole);
       taken = subst (λ (l : List ℕ). Consumes b b₂ l) read (consumes_more b b₁ b₂ (w.bytes ++ left) got w.taken t);
       text = w.text ++ d.text;
-      turns = subst (λ (s : List (List ℕ)). InTurn M s (w.text ++ d.text) M₂) (sym cut) (joined M M₁ M₂ (slips_in w.bytes w.count) (slips_in all k) w.text d.text w.turns d.turns);
+      turns = joined M M₁ M₂ w.bytes front w.text d.text w.turns d.turns;
+      all = subst (λ (l : List ℕ). NoSlip M₂.links l) (sym e) d.all;
     }
 
 -- a read behind the bytes that are kept, after which what no whole slip took is moved to the front
@@ -104,34 +86,17 @@ read_none b b₁ b₂ M M₁ bytes room kept k n h w t z =
     let t₀ : Consumes b₁ b₂ [] = subst (λ (i : ℕ). Consumes b₁ b₂ (take i room)) z t in
     rw (take-put_mid_below kept k bytes room kept (omega arith) h) (record {
       bytes = w.bytes;
-      count = w.count;
-      whole = w.whole;
-      short = w.short;
       taken = subst (λ (l : List ℕ). Consumes b b₂ l) (append-nil (w.bytes ++ take kept bytes)) (consumes_more b b₁ b₂ (w.bytes ++ take kept bytes) [] w.taken t₀);
       text = w.text;
       turns = w.turns;
+      all = w.all;
     })
 
--- at the end the short slip, if bytes are left
-pub took_all : (b b₁ : Option (List ℕ)) (M M₁ M₂ : PackedMemory) (left : List ℕ) → Whole b b₁ M M₁ left → Ended left M₁ M₂ → Took b b₁ M M₂
-took_all b b₁ M M₁ M₂ left w d =
-    let all = w.bytes ++ left in
-    let n : length all / 16 ≡ w.count = omega (arith, length-append w.bytes left, w.whole, w.short) in
-    let cut : slips_of all ≡ slips_in w.bytes w.count ++ short_slip left =
-    ap (λ (k : ℕ). slips_in all k ++ short_slip (drop (16 * k) all)) n
-    ∙ ap₂ (λ (s : List (List ℕ)) (l : List ℕ). s ++ short_slip l) (slips_front w.bytes left w.count (omega (arith, w.whole))) (drop_at w.bytes left (16 * w.count) w.whole)
-    in
-    record {
-      bytes = all;
-      taken = w.taken;
-      text = w.text ++ d.text;
-      turns = subst (λ (s : List (List ℕ)). InTurn M s (w.text ++ d.text) M₂) (sym cut) (joined M M₁ M₂ (slips_in w.bytes w.count) (short_slip left) w.text d.text w.turns d.turns);
-    }
+-- at the end what is left
+pub took_all : (b b₁ : Option (List ℕ)) (M M₁ M₂ : PackedMemory) (left : List ℕ) → Whole b b₁ M M₁ left → Ended M₁ left M₂ → Took b b₁ M M₂
+took_all b b₁ M M₁ M₂ left w e =
+    record { ran = record { bytes = w.bytes; text = w.text; middle = M₁; turns = w.turns; left = left; ended = e }; taken = w.taken }
 
 -- a reader of which nothing is asked
 pub took_none : (b : Option (List ℕ)) (M : PackedMemory) → Took b b M M
-unfolding slips_in
-took_none b M = record { bytes = []; taken = consumes_none b; text = []; turns = none }
-
-pub ran_took : (b b₁ : Option (List ℕ)) (M M' : PackedMemory) → Took b b₁ M M' → Ran M M'
-ran_took b b₁ M M' t = record { slips = slips_of t.bytes; text = t.text; turns = t.turns }
+took_none b M = record { ran = record { bytes = []; text = []; middle = M; turns = none; left = []; ended = nothing }; taken = consumes_none b }

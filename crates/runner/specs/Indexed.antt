@@ -8,6 +8,6 @@ use Rattle.runner.specs.declared.program.Index.{Index}
 abbrev pub memory_of : Index → PackedMemory
 memory_of i = lent i.signatures i.links i.nodes i.scratch i.marks i.output
 
--- 1,024 blocks, and all words 0
+-- 1,024 blocks, words for signatures of any width, and all words 0
 abbrev pub zeros : PackedMemory
-zeros = lent (replicate 1024 0) (replicate 2053 0) (replicate 1023 0) (replicate 1024 0) (replicate 1024 0) (replicate 1024 0)
+zeros = lent (replicate 8192 0) (replicate 2053 0) (replicate 1023 0) (replicate 1024 0) (replicate 1024 0) (replicate 1024 0)

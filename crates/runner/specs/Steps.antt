@@ -1,11 +1,25 @@
--- Slips in turn as a list of calls.
+-- Slips in turn as a list of calls. Each is lent the first of the words held: the index's own slice, or another one.
 -- Assumes nothing.
 use Rattle.std.specs.Prelude.{ℕ, List, [], ◌∷◌, ◌++◌}
+use Rattle.model.specs.Ledger.{Report}
 use Rattle.model.specs.Lists.{slip}
 use Rattle.model.specs.PackedLists.{PackedMemory, PackedStep}
-use Rattle.runner.specs.Served.{InTurn, none, after}
+use Rattle.lists.specs.Held.{HeldStep}
+use Rattle.lists.specs.Held as held
+use Rattle.runner.specs.Served.{lent_count, Serves, InTurn, none, after, Ended, nothing, short, Ran}
 
--- the steps: each slip with the slices that it was lent, its report, and what it left
-abbrev pub steps_of : {M M' : PackedMemory} {slips : List (List ℕ)} {text : List ℕ} → InTurn M slips text M' → List PackedStep
-steps_of none = []
-steps_of (after slips text M₁ r bytes o M₂ g) = steps_of r ++ (record { request = slip bytes; lent = M₁.work; report = o; left = M₂ } ∷ [])
+-- a slip as a call: how many words it was lent, the slices to work in, its report, and what it left
+abbrev pub step_of : {M M' : PackedMemory} {bytes : List ℕ} {o : Report} → Serves M bytes o M' → HeldStep
+step_of {M = M} {bytes = bytes} {o = o} s = record { request = slip bytes; count = lent_count M.links bytes; lent = M.work; report = o; left = s.left }
+
+abbrev pub turns_of : {M M' : PackedMemory} {bytes text : List ℕ} → InTurn M bytes text M' → List HeldStep
+turns_of none = []
+turns_of (after bytes text M₁ r one o M₂ whole s) = turns_of r ++ (step_of s ∷ [])
+
+abbrev pub ends_of : {M M' : PackedMemory} {left : List ℕ} → Ended M left M' → List HeldStep
+ends_of nothing = []
+ends_of (short one o M' some few s) = step_of s ∷ []
+
+-- all of them, as calls of packed tables
+abbrev pub steps_of : {M M' : PackedMemory} → Ran M M' → List PackedStep
+steps_of {M = M} r = held.steps_of M.signatures M.links (turns_of r.turns ++ ends_of r.ended)

@@ -8,10 +8,10 @@ use sigtree::Work;
 use std::io::{Read, Write};
 use tables::TablesMut;
 
-// An index of 1,024 blocks, with the slices that its calls borrow.
+// An index of 1,024 blocks with words for signatures of any width, and the slices that its calls borrow.
 #[derive(Drop)]
 pub struct Index {
-    pub signatures: [u64; 1024],
+    pub signatures: [u64; 8192],
     pub links: [u32; 2053],
     pub nodes: [u64; 1023],
     pub scratch: [u32; 1024],
@@ -25,7 +25,7 @@ impl Index {
         ensures { memory_of result ≡ zeros }
     {
         Index {
-            signatures: [0; 1024],
+            signatures: [0; 8192],
             links: [0; 2053],
             nodes: [0; 1023],
             scratch: [0; 1024],

@@ -1,21 +1,27 @@
--- The questions of a search in order: question 4 first, then those of the query, the marks and the output; each no is the refusal where
--- the questions before it passed.
+-- The questions of a search in order: question 4 first, of the tables and then of the query's words, then those of the query's number, the
+-- marks and the output; each no is the refusal where the questions before it passed.
 -- Assumes nothing.
-use Prim.Native.Nat.{ℕ, suc, ◌^◌, ◌≤◌, ◌<◌}
+use Prim.Native.Nat.{ℕ, ◌^◌, ◌≤◌, ◌<◌}
+use native.Mathlib.Decide.{dec_lt}
 use native.Mathlib.Omega.{arith}
 use mathlib.Core.Path.{◌≡◌, refl, sym, ◌∙◌, ap}
+use mathlib.Core.Logic.{◌≢◌}
 use mathlib.Core.Bool.{Bool, true, false, ◌&&◌}
 use mathlib.Core.List.{List}
-use lib.Dec.{leb, ltb}
-use lib.ListN.{length}
-use borrow.Author.Tests.{lt-leb, le-leb, leb-true}
-use Rattle.model.proofs.Asking.{both, ask_zero}
+use lib.Dec.{eqb, leb, ltb}
+use lib.ListN.{length, get_or}
+use borrow.Author.Tests.{lt-leb, le-leb, leb-true, ltb-true, lt-ltb, eqb-true, eq-eqb}
+use Rattle.model.specs.Limits.{word_bits}
+use Rattle.model.specs.Wide.{word_count, number_in}
+use Rattle.model.specs.Tables.{width_of, blocks_of}
 use Rattle.model.specs.Questions.{Asked, ask, tables_fit, asks_tables, search_refusal}
-use Rattle.model.specs.Tables.{width_of}
 use Rattle.model.specs.Packed.{unpacked}
 use Rattle.model.specs.PackedPromises.{packed_fit}
+use Rattle.model.proofs.Asking.{both, ask_zero}
+use Rattle.model.proofs.Wide.{number_one}
 use Rattle.model.proofs.Packing.{row_word}
-use Rattle.tables.proofs.Fits.{packs, packed_no, packed_yes}
+use Rattle.model.proofs.Packing.{fit_packs}
+use Rattle.tables.proofs.Fits.{packed_no, packed_yes}
 
 pub ask_yes : (n : ℕ) (t : Bool) (later : ℕ) → t ≡ true → ask n t later ≡ later
 unfolding ask
@@ -25,12 +31,12 @@ pub ask_no : (n : ℕ) (t : Bool) (later : ℕ) → t ≡ false → ask n t late
 unfolding ask
 ask_no n t later e = rw (e, ask)
 
--- the questions after question 4: the query, and then the marks and the output
+-- the questions after those of the tables: of the query's words and its number, and then of the marks and the output
+abbrev pub of_query : List ℕ → List ℕ → ℕ → ℕ
+of_query links q rest = ask 4 (eqb (length q) (word_count (width_of links))) (ask 6 (ltb (number_in q) (2 ^ width_of links)) rest)
+
 abbrev pub buffers : ℕ → ℕ → ℕ → ℕ
 buffers B marks output = ask 9 (leb B marks) (ask 10 (leb B output) 0)
-
-abbrev pub later : List ℕ → List ℕ → ℕ → ℕ → ℕ → ℕ
-later sigs links q marks output = ask 6 (ltb q (2 ^ width_of links)) (buffers (length sigs) marks output)
 
 module _ (B marks output : ℕ) where
   pub says_marks : marks < B → 9 ≡ buffers B marks output
@@ -48,39 +54,68 @@ module _ (B marks output : ℕ) where
       let b = ask_zero 8 (leb B marks) _ (sym z) in
       (leb-true _ _ b.0, leb-true _ _ (ask_zero 9 (leb B output) 0 b.1).0)
 
--- a no to the first of two questions is the refusal, and a yes leaves the second
-pub first_no : (n : ℕ) (t : Bool) (rest x : ℕ) → (x ≡ 0 → ⊥) → x ≡ ask n t 0 → x ≡ ask n t rest
-first_no n true rest x some e = absurd (some (e ∙ ask_yes n true 0 refl))
-first_no n false rest x some e = e ∙ ask_no n false 0 refl ∙ sym (ask_no n false rest refl)
+-- a no to one of two questions is the refusal, and a yes to both leaves a third
+two_no : (m n : ℕ) (t u : Bool) (rest x : ℕ) → x ≢ 0 → x ≡ ask m t (ask n u 0) → x ≡ ask m t (ask n u rest)
+unfolding ask
+two_no m n false u rest x some e = e
+two_no m n true false rest x some e = e
+two_no m n true true rest x some e = absurd (some e)
 
-pub first_yes : (n : ℕ) (t : Bool) (rest : ℕ) → 0 ≡ ask (suc n) t 0 → rest ≡ ask (suc n) t rest
-first_yes n t rest z = sym (ask_yes (suc n) t rest (ask_zero n t 0 (sym z)).0)
+pub query_no : (links q : List ℕ) (rest x : ℕ) → x ≢ 0 → x ≡ of_query links q 0 → x ≡ of_query links q rest
+query_no links q rest x some e = two_no 4 6 _ _ rest x some e
 
-module _ (sigs links nodes : List ℕ) (q marks output : ℕ) where
+pub query_yes : (links q : List ℕ) (rest : ℕ) → 0 ≡ of_query links q 0 → rest ≡ of_query links q rest
+query_yes links q rest z =
+    let l = ask_zero 3 (eqb (length q) (word_count (width_of links))) _ (sym z) in
+    let n = ask_zero 5 (ltb (number_in q) (2 ^ width_of links)) 0 l.1 in
+    sym (ask_yes 4 _ _ l.0 ∙ ask_yes 6 _ _ n.0)
+
+-- what a yes to both says of the query: it has the words of the width, and the number fits
+module _ (links q : List ℕ) (z : 0 ≡ of_query links q 0) where
+  query_long : length q ≡ word_count (width_of links)
+  query_long = eqb-true _ _ (ask_zero 3 _ _ (sym z)).0
+
+  query_low : number_in q < 2 ^ width_of links
+  query_low = ltb-true _ _ (ask_zero 5 _ _ (ask_zero 3 _ _ (sym z)).1).0
+
+  -- one word, and many
+  pub one_query : length q ≡ 1 → (leb (width_of links) word_bits ≡ true) × (get_or q 0 0 < 2 ^ width_of links)
+  one_query e = (le-leb (width_of links) word_bits (omega (arith, query_long)), rw (number_one q e) at query_low)
+
+  pub many_query : 1 ≤ width_of links → length q ≢ 1 → ((ltb word_bits (width_of links) && eqb (length q) (word_count (width_of links))) ≡ true) × (number_in q < 2 ^ width_of links)
+  many_query from n =
+      let long = query_long in
+      let F : ℕ = width_of links in
+      let w : word_bits < F = elim (dec_lt word_bits F) [ yes h ↦ h | no h ↦ absurd (n (omega arith)) ] in
+      (rw (lt-ltb word_bits F w, eq-eqb (length q) (word_count F) long), query_low)
+
+module _ (words links nodes q : List ℕ) (marks output : ℕ) where
+  abbrev U : List ℕ
+  U = unpacked links nodes
+
   abbrev A : Asked
-  A = asks_tables sigs (unpacked links nodes)
+  A = asks_tables words U
 
   abbrev fit : Bool
-  fit = packed_fit sigs links nodes && tables_fit A
+  fit = packed_fit links nodes && tables_fit A
 
   abbrev number : ℕ
-  number = ask 4 (packed_fit sigs links nodes) (search_refusal A q marks output)
+  number = ask 4 (packed_fit links nodes) (search_refusal A q marks output)
 
-  -- question 4's no is the refusal, and its yes leaves the later questions
-  pub number_unfit : (n : ℕ) → (n ≡ 0 → ⊥) → n ≡ ask 4 fit 0 → n ≡ number
+  -- a no to the tables is the refusal, and their yes leaves the later questions
+  pub number_unfit : (n : ℕ) → n ≢ 0 → n ≡ ask 4 fit 0 → n ≡ number
   unfolding search_refusal
   number_unfit n some e = go fit refl
     where
       go : (t : Bool) → fit ≡ t → n ≡ number
       go true y = absurd (some (e ∙ ask_yes 4 fit 0 y))
-      go false y = e ∙ ask_no 4 fit 0 y ∙ sym (packed_no _ _ _ y (λ t. ask_no 4 (tables_fit A) _ t))
+      go false y = e ∙ ask_no 4 fit 0 y ∙ sym (packed_no _ _ _ y (λ t. ask_no 4 _ _ (ap (λ (u : Bool). u && eqb (length q) (word_count A.width)) t)))
 
-  pub number_later : 0 ≡ ask 4 fit 0 → later sigs links q marks output ≡ number
+  pub number_later : 0 ≡ ask 4 fit 0 → of_query links q (buffers (blocks_of U) marks output) ≡ number
   unfolding search_refusal
   number_later z =
       let y = (ask_zero 3 fit 0 (sym z)).0 in
-      let b = both {t = packed_fit sigs links nodes} y in
-      let l = (packs sigs links nodes b.0).rows_long in
-      ap (λ (F : ℕ). ask 6 (ltb q (2 ^ F)) (ask 9 (leb (length sigs) marks) (ask 10 (leb (length sigs) output) 0))) (sym (row_word links nodes 0 (omega arith)))
-      ∙ sym (ask_yes 4 (tables_fit A) _ b.1)
-      ∙ sym (packed_yes _ (tables_fit A) _ y)
+      let b = both {t = packed_fit links nodes} y in
+      let l = (fit_packs links nodes b.0).rows_long in
+      let w : width_of U ≡ width_of links = row_word links nodes 0 (omega arith) in
+      sym (packed_yes _ (tables_fit A) _ y ∙ rw (b.1, w))

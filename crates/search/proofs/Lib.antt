@@ -3,6 +3,7 @@ pub mod Marks
 pub mod Listed
 pub mod Any
 pub mod Steps
+pub mod Words
 pub mod Leaves
 pub mod Rows
 pub mod Nodes

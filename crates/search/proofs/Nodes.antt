@@ -143,7 +143,7 @@ pub at_node : {sigs links nodes : List ℕ} {q w u : ℕ} {l : Budget} {m : List
 at_node p b s u n f x y = record { packs = p; few = b; room = s; untested = u; some = n; forking = f; left = x; right = y }
 
 -- the same of tables that fit
-pub fit_node : {sigs links nodes : List ℕ} {q w u : ℕ} {l : Budget} {m : List ℕ} {x y : ℕ} → FitsPacked sigs links nodes → length sigs ≤ length m → (u ≡ 0 → ⊥) → (l.nodes ≡ 0 → ⊥) → Forking l → x ≡ left_in w → y ≡ right_in w
+pub fit_node : {sigs words links nodes : List ℕ} {q w u : ℕ} {l : Budget} {m : List ℕ} {x y : ℕ} → FitsPacked sigs words links nodes → length sigs ≤ length m → (u ≡ 0 → ⊥) → (l.nodes ≡ 0 → ⊥) → Forking l → x ≡ left_in w → y ≡ right_in w
     → AtNode sigs links nodes q w u l m x y
 fit_node t = at_node t.packs t.fits.blocks_to
 

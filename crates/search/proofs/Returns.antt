@@ -1,12 +1,11 @@
 -- What each return of the code gives, from what its tests and calls said: a law to a return, over the laws of one step.
 -- Assumes nothing.
-use Prim.Native.Nat.{ℕ, ◌+◌, ◌-◌, ◌^◌, ◌≤◌, ◌<◌}
+use Prim.Native.Nat.{ℕ, ◌+◌, ◌-◌, ◌≤◌, ◌<◌}
 use native.Mathlib.Decide.{dec_lt}
 use native.Mathlib.Omega.{arith}
 use mathlib.Core.Path.{◌≡◌, refl, sym, ◌∙◌, ap, ap₂, subst}
 use mathlib.Core.Bool.{Bool, true, false, not, ◌&&◌}
 use mathlib.Core.List.{List, []}
-use lib.Bits.{bit_and}
 use lib.Dec.{eqb, leb, ltb}
 use lib.ListN.{length, length-set}
 use borrow.Author.Tests.{eq-eqb, ne_eqb, le-leb, lt-leb, lt-ltb, le-ltb}
@@ -16,7 +15,6 @@ use Rattle.model.specs.Signature.{coversb}
 use Rattle.model.specs.Tables.{width_of, root_of, next_of, filed_of, signature_of}
 use Rattle.model.specs.Ledger.{Report, bare}
 use Rattle.model.specs.Promises.{unsound, output_after}
-use Rattle.signature.proofs.Covering.{and_test}
 use Rattle.model.specs.Packed.{unpacked, Packs}
 use Rattle.model.proofs.Packing.{front_word}
 use Rattle.search.specs.Budget.{Budget, unfit, lent, Forking}
@@ -25,10 +23,6 @@ use Rattle.search.specs.Search.{may_mark, chain_twin, walk_twin, found_twin}
 use Rattle.search.proofs.Steps.{chain_stop, chain_mark, found_empty, found_unfit, found_list}
 use Rattle.search.proofs.Marks.{Went, walk_went}
 use Rattle.search.proofs.Any.{walk_from_cleared, grown_long, grown_found}
-
--- the AND of a signature, as it was read, and the query
-pub covers_read : (F s s' q : ℕ) (r : Bool) → q < 2 ^ F → r ≡ eqb (bit_and s q) q → s ≡ s' → r ≡ coversb F s' q
-covers_read F s s' q r low e d = e ∙ and_test F s q low ∙ ap (λ (x : ℕ). coversb F x q) d
 
 -- tests joined by `and`, of which the last counts where those before it hold
 pub and_yes : (v u p t : Bool) → u ≡ true → v ≡ t → u ≡ p → v ≡ (p && t)
@@ -63,9 +57,9 @@ picks_no false false false true v e = refl
 picks_no false false false false v e = no_bool (sym e)
 
 module _ (sigs links : List ℕ) (q b : ℕ) (m : List ℕ) where
-  pub may_yes : may_before sigs links b m ≡ true → coversb (width_of links) (signature_of sigs b) q ≡ may_mark sigs links q b m
+  pub may_yes : (r : Bool) → r ≡ coversb (width_of links) (signature_of sigs b) q → may_before sigs links b m ≡ true → r ≡ may_mark sigs links q b m
   unfolding may_mark
-  may_yes e = picks_yes (eqb b 0) (ltb (length sigs) b) (eqb (filed_of links b) 0) (is_marked m b) _ (rw (within b (length sigs)) at e)
+  may_yes r d e = d ∙ picks_yes (eqb b 0) (ltb (length sigs) b) (eqb (filed_of links b) 0) (is_marked m b) _ (rw (within b (length sigs)) at e)
 
   pub may_no : may_before sigs links b m ≡ false → false ≡ may_mark sigs links q b m
   unfolding may_mark

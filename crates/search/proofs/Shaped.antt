@@ -2,6 +2,7 @@
 -- up the plain tree's nodes and forks. By induction on the shape; each node hands its budget to one side and on to the other.
 -- Assumes nothing.
 use Prim.Native.Nat.{ℕ, ◌+◌, ◌-◌, ◌%◌, ◌≤◌, ◌<◌}
+use native.Mathlib.Decide.{dec_le}
 use native.Mathlib.Omega.{arith}
 use mathlib.Core.Path.{◌≡◌, refl, sym, ◌∙◌, ap, subst}
 use mathlib.Core.Logic.{◌⊎◌, inl, inr, ⊎_elim}
@@ -10,8 +11,9 @@ use mathlib.Core.List.Memᴰ
 use mathlib.Core.List.{List, [], ◌∷◌, ◌++◌, Memᴰ}
 use lib.Dec.{eqb}
 use lib.ListN.{length, length-append}
-use borrow.Author.Tests.{eq-eqb, ne_eqb, le-ltb}
+use borrow.Author.Tests.{eq-eqb, ne_eqb, le-ltb, le-leb, lt-leb}
 use Rattle.model.specs.Basics.{pick}
+use Rattle.model.specs.Limits.{widest, word_bits}
 use Rattle.model.specs.Signature.{bit_at, coversb}
 use Rattle.model.specs.Tree.{goes_left, Edge, edge, compared, nodes_read}
 use Rattle.model.specs.Tables.{width_of, next_of, filed_of, left_of, right_of, signature_of}
@@ -20,7 +22,7 @@ use Rattle.model.proofs.Bits.{bit_cases}
 use Rattle.tables.proofs.Trees.{depth, shape_tree}
 use Rattle.search.specs.Budget.{Budget, fork_less}
 use Rattle.search.specs.Marks.{is_marked, mark}
-use Rattle.search.specs.Search.{may_mark, chain_twin, leaf_twin, side_at, is_leaf, in_turn, node_twin, walk_twin}
+use Rattle.search.specs.Search.{may_mark, chain_twin, leaf_twin, from_right, side_at, is_leaf, in_turn, node_twin, walk_twin}
 use Rattle.search.proofs.Leaves.{block_leaf, above_leaf}
 use Rattle.search.proofs.Steps.{chain_end, chain_mark, leaf_passed, leaf_chain, walk_leaf, walk_node, node_right, node_both}
 
@@ -136,9 +138,16 @@ may_mark_is sigs links q b m low high f e z =
     simp (ne_eqb b 0 n, le-ltb (length sigs) b high, ne_eqb _ _ d, z) e
 
 -- the side of a query at a position of the width is its bit there
-side_bit : (F q p : ℕ) → 1 ≤ p → p ≤ F → F ≤ 64 → side_at F q p ≡ bit_at F q p
+side_bit : (F q p : ℕ) → 1 ≤ p → p ≤ F → F ≤ widest → side_at F q p ≡ bit_at F q p
 unfolding side_at
-side_bit F q p low high wide = let e : (F + 64 - p % 64) % 64 ≡ F - p = omega arith in rw e
+side_bit F q p low high wide = go (dec_le F word_bits)
+  where
+    k : from_right F p ≡ F - p
+    k = omega arith
+
+    go : Dec (F ≤ word_bits) → side_at F q p ≡ bit_at F q p
+    go (yes h) = let e : (F - p) % word_bits ≡ F - p = omega arith in simp (le-leb F word_bits h, k) (rw e)
+    go (no n) = let h : word_bits < F = omega arith in simp (lt-leb F word_bits h, k)
 
 -- a reference that a shape stands at is a leaf where the shape is one
 leaf_tip : (B : ℕ) (L : List ℕ) (r : ℕ) (t : Shape) → Holds B L r t → is_leaf B r ≡ is_tip t
@@ -202,7 +211,7 @@ module _ (sigs links : List ℕ) (q : ℕ) where
   turn_marks a b x y u n f k m ea eb =
       rw (ea, mark_all_append m (hits sigs F q a) (hits sigs F q b)) eb
 
-  module _ (i p : ℕ) (l r : Shape) (u x n f k : ℕ) (m : List ℕ) (o : Holds (length sigs) links x (fork i p l r)) (wide : F ≤ 64)
+  module _ (i p : ℕ) (l r : Shape) (u x n f k : ℕ) (m : List ℕ) (o : Holds (length sigs) links x (fork i p l r)) (wide : F ≤ widest)
       (first : 1 ≤ p) (last : p ≤ width_of links) (deep : 1 ≤ u) where
     abbrev Y : ℕ
     Y = right_of (length sigs) links i
@@ -270,7 +279,7 @@ module _ (sigs links : List ℕ) (q : ℕ) where
             rw (below_is e l r refl refl refl) (turn_marks l r X Y (u - 1) n f k m (ihl _ _ _ m w.0) (ihr n f k _ w.1))
 
   -- THE WALK OF A SHAPE, with as many positions untested as it is deep
-  pub walk_marks : F ≤ 64 → (path : List Edge) (t : Shape) (u r n f k : ℕ) (m : List ℕ) → Holds (length sigs) links r t → Placed F sigs links path t → depth t ≤ u
+  pub walk_marks : F ≤ widest → (path : List Edge) (t : Shape) (u r n f k : ℕ) (m : List ℕ) → Holds (length sigs) links r t → Placed F sigs links path t → depth t ≤ u
       → Unmarked m (hits sigs F q t) → Marks t n f k m u r
   unfolding nodes_read
   walk_marks wide path (tip h cs) u r n f k m o pl d un =

@@ -3,6 +3,7 @@
 -- Assumes nothing.
 use Rattle.std.specs.Prelude.{ℕ, zero, suc, ◌+◌, ◌-◌, ◌/◌, ◌%◌, ◌^◌, Bool, true, false, List, eqb, leb, ltb, length, get_or}
 use Rattle.model.specs.Basics.{pick}
+use Rattle.model.specs.Limits.{word_bits}
 use Rattle.model.specs.Signature.{coversb}
 use Rattle.model.specs.Tables.{width_of, root_of, next_of, filed_of, position_of, left_of, right_of, signature_of}
 use Rattle.model.specs.Packed.{position_in, left_in, right_in}
@@ -37,10 +38,14 @@ leaf_twin sigs links q r l m =
     pick (eqb r 0) (unfit, m)
     (pick (coversb (width_of links) (signature_of sigs r) q) (chain_twin sigs links q l.nodes l.forks l.blocks r m) (l, m))
 
--- The side of a query at a node that tests position p: its bit there, found by a shift of a word of 64 bits. A position that is none of
--- 1 to F, on unsound tables, gives some bit of that word: no position is refused, since the walk ends without that.
+-- how far from the right the bit of position p stands; of a position that is none of 1 to F, a difference that wraps at 2 ^ 32
+abbrev pub from_right : ℕ → ℕ → ℕ
+from_right F p = (F + (2 ^ 32 - p)) % 2 ^ 32
+
+-- The side of a query at a node that tests position p: its bit there. A position that is none of 1 to F, on unsound tables, is not refused,
+-- since the walk ends without that: it gives some bit of a query of one word, and 0 of a longer one.
 unfoldable pub side_at : ℕ → ℕ → ℕ → ℕ
-side_at F q p = q / 2 ^ ((F + 64 - p % 64) % 64) % 2
+side_at F q p = q / 2 ^ pick (leb F word_bits) (from_right F p % word_bits) (from_right F p) % 2
 
 -- the index of a leaf's signature; reference 0, which is none, gets one that no slice has
 abbrev pub index_of : ℕ → ℕ

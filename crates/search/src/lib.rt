@@ -4,21 +4,37 @@
 mod budget;
 mod list;
 mod marking;
+mod sought;
 mod walk;
 
-ghost use Rattle.std.specs.Prelude.{◌≡◌, ◌-◌, ◌≤◌, length, leb, IfOk};
+ghost use Rattle.std.specs.Prelude.{◌≡◌, ◌-◌, ◌^◌, ◌≤◌, length, eqb, leb, ltb, IfOk};
 ghost use Rattle.answers.specs.Answers.{answer_of, report_of};
 ghost use Rattle.model.specs.Questions.{ask};
-ghost use Rattle.tables.specs.Held.{held};
+ghost use Rattle.model.specs.Wide.{word_count, number_in};
+ghost use Rattle.model.specs.Tables.{width_of};
+ghost use Rattle.tables.specs.Held.{signatures_held, blocks_held, held};
 ghost use Rattle.model.specs.PackedPromises.{PackedSearch};
-ghost use Rattle.search.specs.Queries.{blocks_in};
 ghost use Rattle.search.specs.Search.{found_twin};
 
 use answers::{Counts, Refusal};
 use budget::Budget;
 use marking::Marks;
-use tables::Tables;
+use sought::Sought;
+use tables::{Rows, Tables};
 use walk::Query;
+
+// Questions 4 and 6: has the query as many words as a signature, and does its number fit the width?
+fn query_fits(rows: &Rows, query: &[u64]) -> Result<(), Refusal>
+    ensures { answer_of result ≡ ask 4 (eqb (length query.now) (word_count (width_of rows.now.links.now))) (ask 6 (ltb (number_in query.now) (2 ^ width_of rows.now.links.now)) 0) }
+{
+    if query.len() != rows.words {
+        return Err(Refusal::Unfit);
+    }
+    if !signature::fits(query, rows.width()) {
+        return Err(Refusal::TooLarge);
+    }
+    Ok(())
+}
 
 // Questions 9 and 10: are the marks and the output as long as there are blocks?
 fn buffers_fit(blocks: usize, marks: usize, output: usize) -> Result<(), Refusal>
@@ -42,9 +58,13 @@ fn used(blocks: usize, left: u64) -> u32
 }
 
 // A search that no question refuses.
-fn find(query: &Query, marks: &mut [u8], output: &mut [u32]) -> Result<Counts, Refusal>
-    requires { (blocks_in query.now ≤ length marks.old) × (blocks_in query.now ≤ length output.old) }
-    ensures gives { (report_of result, marks.new, output.new) ≡ found_twin query.now.tables.rows.signatures.now (held query.now.tables) query.now.bits marks.old output.old }
+fn find<Q: Sought>(
+    query: &Query<'_, Q>,
+    marks: &mut [u8],
+    output: &mut [u32],
+) -> Result<Counts, Refusal>
+    requires { (blocks_held query.now.tables ≤ length marks.old) × (blocks_held query.now.tables ≤ length output.old) }
+    ensures gives { (report_of result, marks.new, output.new) ≡ found_twin (signatures_held query.now.tables) (held query.now.tables) (Q.number query.now.bits) marks.old output.old }
     ensures found { IfOk result (λ c. c.found ≤ length output.new) }
 {
     let rows = &query.tables.rows;
@@ -72,15 +92,18 @@ pub fn search(
     signatures: &[u64],
     links: &[u32],
     nodes: &[u64],
-    query: u64,
+    query: &[u64],
     marks: &mut [u8],
     output: &mut [u32],
 ) -> Result<Counts, Refusal>
-    ensures promise { PackedSearch signatures.now links.now nodes.now query marks.old output.old (report_of result) marks.new output.new }
+    ensures promise { PackedSearch signatures.now links.now nodes.now query.now marks.old output.old (report_of result) marks.new output.new }
     ensures found { IfOk result (λ c. c.found ≤ length output.new) }
 {
     let tables = Tables::of(signatures, links, nodes)?;
-    let query = Query::of(tables, query)?;
-    buffers_fit(signatures.len(), marks.len(), output.len())?;
-    find(&query, marks, output)
+    query_fits(&tables.rows, query)?;
+    buffers_fit(tables.rows.blocks(), marks.len(), output.len())?;
+    if query.len() == 1 {
+        return find(&Query::of(tables, query[0]), marks, output);
+    }
+    find(&Query::of(tables, query), marks, output)
 }

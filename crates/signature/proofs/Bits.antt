@@ -5,12 +5,12 @@ use mathlib.Core.Path.{◌≡◌, refl, sym, ap, ap₂, ◌∙◌}
 use mathlib.Core.Bool.{true, false}
 use mathlib.Core.Logic.{◌≢◌}
 use Prim.Native.Nat.{ℕ, zero, suc, ◌+◌, ◌-◌, ◌*◌, ◌/◌, ◌%◌, ◌^◌, ◌≤◌, ◌<◌, min, max}
-use native.Mathlib.Nat.{mod-lt, zero-lt-suc, zero-div, div-one, div_self, div-eq_of_lt, div-div-eq-div-mul, div-add-mod', mul-div_cancel, sub_self, pow-suc, pow-succ', not-suc-le-zero}
-use native.Mathlib.Decide.{dec_lt, ℕ_discrete}
+use native.Mathlib.Nat.{mod-lt, zero-lt-suc, zero-div, div-one, div_self, div-eq_of_lt, div-div-eq-div-mul, div-add-mod', mul-div_cancel, sub_self, pow-suc, pow-succ'}
+use native.Mathlib.Decide.{dec_lt}
 use native.Mathlib.Omega.{arith}
 use lib.Dec.{eqb}
 use lib.Arith.{lt-one, digits_mod}
-use lib.Pow.{pow_pos, pow-add, pow-lt, pow_mono, high, ones_split, ones_lt}
+use lib.Pow.{pow_pos, pow-add, pow-lt, pow_mono}
 use lib.Bits.{bit_and, bit_or, bit_xor, differ, and_step, or_step, xor_step, and_shr, or_shr, xor_shr, or_lt}
 use borrow.Author.Tests.{eqb-true, eqb-false}
 use Rattle.model.specs.Signature.{bit_at}
@@ -90,20 +90,6 @@ bit_above F s k j h l =
     let small : s < 2 ^ (F - j) = omega (arith, pow_mono l) in
     ap (λ (n : ℕ). n % 2) (div-eq_of_lt small)
 
--- all positions set
-pub bit_ones : (F j : ℕ) → 1 ≤ j → j ≤ F → bit_at F (2 ^ F - 1) j ≡ 1
-bit_ones F zero p h = absurd (not-suc-le-zero p)
-bit_ones F (suc i) p h =
-    let k : ℕ = F - suc i in
-    let e : F ≡ suc i + k = omega arith in
-    ap (λ (n : ℕ). (2 ^ n - 1) / 2 ^ k % 2) e
-    ∙ ap (λ (n : ℕ). n / 2 ^ k % 2) (ones_split (suc i) k)
-    ∙ ap (λ (n : ℕ). n % 2) (high (2 ^ suc i - 1) k (ones_lt k))
-    ∙ odd
-  where
-    odd : (2 ^ suc i - 1) % 2 ≡ 1
-    odd = omega (arith, pow-suc 2 i, pow_pos i)
-
 -- the number with position j alone set
 pub bit_one_here : (F j : ℕ) → bit_at F (2 ^ (F - j)) j ≡ 1
 bit_one_here F j = ap (λ (n : ℕ). n % 2) (div_self (pow_pos (F - j)))
@@ -122,15 +108,6 @@ bit_one_elsewhere F j i hj hi ne = go (dec_lt i j)
         ∙ ap (λ (n : ℕ). n / 2 ^ (F - i) % 2) (pow-add 2 (suc d) (F - i))
         ∙ ap (λ (n : ℕ). n % 2) (mul-div_cancel (2 ^ suc d) (pow_pos (F - i)))
         ∙ omega (arith, pow-suc 2 d)
-
-pub bit_one_only : (F j i : ℕ) → j ≤ F → i ≤ F → bit_at F (2 ^ (F - j)) i ≡ 1 → i ≡ j
-bit_one_only F j i hj hi e = go (ℕ_discrete i j)
-  where
-    go : Dec (i ≡ j) → i ≡ j
-    go (yes k) = k
-    go (no k) =
-        let z : bit_at F (2 ^ (F - j)) i ≡ 0 = bit_one_elsewhere F j i hj hi k in
-        absurd (omega arith)
 
 pub bit_one_fits : (F j : ℕ) → 1 ≤ j → j ≤ F → 2 ^ (F - j) < 2 ^ F
 bit_one_fits F j p h =

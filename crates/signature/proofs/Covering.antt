@@ -86,9 +86,6 @@ covers_iff_and F s q h = (λ c. covers_and F s q h (coversb_complete F s q c), �
 pub covers_zero : (F s : ℕ) → Covers F s 0
 covers_zero F s j p h e = absurd (omega (arith, bit_zero F j))
 
-pub covers_self : (F s : ℕ) → Covers F s s
-covers_self F s j p h e = e
-
 pub covers_trans : (F s t q : ℕ) → Covers F s t → Covers F t q → Covers F s q
 covers_trans F s t q x y j p h e = x j p h (y j p h e)
 

@@ -49,7 +49,3 @@ first_le {r = r} {s = s} x y = le_of_suc-le-suc (lt_of_not-le (λ (g : suc s ≤
 
 pub first_unique : {F a b r s : ℕ} → IsFirst F a b r → IsFirst F a b s → r ≡ s
 first_unique x y = le_antisymm (first_le x y) (first_le y x)
-
--- it is the same from either side
-pub first_swap : {F a b r : ℕ} → IsFirst F a b r → IsFirst F b a r
-first_swap x = record { low = x.low; high = x.high; differs = λ e. x.differs (sym e); before = λ i p h. sym (x.before i p h) }

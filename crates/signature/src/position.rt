@@ -1,7 +1,8 @@
 // A position of signatures.
-ghost use Rattle.std.specs.Prelude.{◌≡◌, ◌-◌, ◌^◌, ◌≤◌, eqb, IfSome, IfNone};
-ghost use Rattle.model.specs.Limits.{widest};
-ghost use Rattle.model.specs.Signature.{bit_at};
+ghost use Rattle.std.specs.Prelude.{◌≡◌, ◌-◌, ◌*◌, ◌%◌, ◌^◌, ◌≤◌, ◌<◌, length, set, IfSome, IfNone};
+ghost use Rattle.std.specs.Int.Bits.{bit_or};
+ghost use Rattle.model.specs.Limits.{widest, word_bits};
+ghost use Rattle.model.specs.Wide.{number_in, word_of};
 
 // The position's number, 1 to the width, counted from the left, and the width of the signatures.
 #[derive(Clone, Copy)]
@@ -25,24 +26,41 @@ impl Position {
         Some(Position { width, number })
     }
 
-    // Whether the signature has it set.
-    pub fn is_set(self, signature: u64) -> bool
-        ensures { result ≡ eqb (bit_at self.width signature self.number) 1 }
+    // The index of the word that has it, in a signature of so many words.
+    pub(crate) fn word_in(self, words: usize) -> usize
+        requires { self.width ≤ word_bits * words }
+        ensures value { result ≡ word_of words (self.width - self.number) }
+        ensures inside { result < words }
     {
-        (signature >> (self.width - self.number)) & 1 == 1
+        words - 1 - ((self.width - self.number) / u64::BITS) as usize
     }
 
-    // The signature's bit there: 0 or 1.
-    pub fn bit(self, signature: u64) -> u32
-        ensures { (result ≡ bit_at self.width signature self.number) × (result ≤ 1) }
+    // How far it stands from the right in that word.
+    pub(crate) fn shift(self) -> u32
+        ensures value { result ≡ (self.width - self.number) % word_bits }
+        ensures inside { result < word_bits }
     {
-        u32::from(self.is_set(signature))
+        (self.width - self.number) % u64::BITS
     }
 
-    // Its weight in a signature: the signature that has it alone set.
-    pub fn weight(self) -> u64
-        ensures { result ≡ 2 ^ (self.width - self.number) }
+    // Sets it. The result is the word that has it, as it was.
+    pub fn set(self, signature: &mut [u64]) -> u64
+        requires { self.width ≤ word_bits * length signature.old }
+        ensures number { number_in signature.new ≡ bit_or (number_in signature.old) (2 ^ (self.width - self.number)) }
+        ensures long { length signature.new ≡ length signature.old }
+        ensures back { set signature.new (word_of (length signature.old) (self.width - self.number)) result ≡ signature.old }
     {
-        1 << (self.width - self.number)
+        let at = self.word_in(signature.len());
+        let word = signature[at];
+        signature[at] = word | (1 << self.shift());
+        word
+    }
+
+    // Puts back the word that has it.
+    pub fn put_back(self, signature: &mut [u64], word: u64)
+        requires { self.width ≤ word_bits * length signature.old }
+        ensures { signature.new ≡ set signature.old (word_of (length signature.old) (self.width - self.number)) word }
+    {
+        signature[self.word_in(signature.len())] = word;
     }
 }

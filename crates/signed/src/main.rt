@@ -1,16 +1,28 @@
 // Signs the worked examples and splits two texts, each result one line of text. tests/words/expected.py says what must come out.
 #![tactic(auto)]
 
+ghost use Rattle.std.specs.Prelude.{◌≤◌, ◌<◌};
+
+use signature::MOST_WORDS;
 use std::io;
 
-// One signing: the text's length, the width, k, the answer and the signature, 0 where the text is refused.
-fn show(rt: &impl Print, text: &[u8], width: u32, k: u32) -> io::Result<u64> {
-    let outcome = words::sign(text, width, k);
-    let answer = answers::answer(&outcome);
-    let signature = outcome.unwrap_or(0);
+// room for one word more than the widest signature has
+const ROOM: usize = MOST_WORDS + 1;
+
+// One signing: the text's length, the width, k, how many words are lent, the answer, and the words as they are left, which were 7 each.
+fn show(rt: &impl Print, text: &[u8], width: u32, k: u32, lent: usize) -> io::Result<[u64; ROOM]>
+    requires { lent ≤ ROOM }
+{
+    let mut room = [7; ROOM];
+    let signature = &mut room[..lent];
+    let answer = answers::answer(&words::sign(text, width, k, signature));
     let bytes = text.len();
-    println!(rt; "bytes {bytes} width {width} k {k} answer {answer} signature {signature}")?;
-    Ok(signature)
+    print!(rt; "bytes {bytes} width {width} k {k} lent {lent} answer {answer} signature")?;
+    for word in signature.iter() {
+        print!(rt; " {word}")?;
+    }
+    println!(rt;)?;
+    Ok(room)
 }
 
 // One word: its number, the answer, its length and its bytes; then its place, as a caller from C is told it.
@@ -30,49 +42,74 @@ fn split(rt: &impl Print, text: &[u8], n: u32) -> io::Result<()> {
 
 // Document 01's triplets at width 12, and words of 1, 2 and 3 bytes.
 fn triplets(rt: &impl Print) -> io::Result<()> {
-    show(rt, b"pro", 12, 8)?;
-    show(rt, b"rof", 12, 8)?;
-    show(rt, b"prof", 12, 8)?;
-    show(rt, b"prof", 12, 1)?;
-    show(rt, b"of prof\nof", 12, 8)?;
-    show(rt, b"a", 12, 8)?;
-    show(rt, b"ab", 12, 8)?;
-    show(rt, b"abc", 12, 8)?;
+    show(rt, b"pro", 12, 8, 1)?;
+    show(rt, b"rof", 12, 8, 1)?;
+    show(rt, b"prof", 12, 8, 1)?;
+    show(rt, b"prof", 12, 1, 1)?;
+    show(rt, b"of prof\nof", 12, 8, 1)?;
+    show(rt, b"a", 12, 8, 1)?;
+    show(rt, b"ab", 12, 8, 1)?;
+    show(rt, b"abc", 12, 8, 1)?;
     Ok(())
 }
 
 // No word, positions that repeat, and the ends of width and k.
 fn edges(rt: &impl Print) -> io::Result<()> {
-    show(rt, b"", 12, 8)?;
-    show(rt, b"  \n \n", 12, 8)?;
-    show(rt, b"aaaaaaaa", 12, 8)?;
-    show(rt, b"aaaab", 12, 1)?;
-    show(rt, b"aaaab", 12, 2)?;
-    show(rt, b"the quick brown fox", 1, 8)?;
-    show(rt, b"the quick brown fox", 64, 8)?;
-    show(rt, b"the quick brown fox", 64, 1)?;
+    show(rt, b"", 12, 8, 1)?;
+    show(rt, b"  \n \n", 12, 8, 1)?;
+    show(rt, b"aaaaaaaa", 12, 8, 1)?;
+    show(rt, b"aaaab", 12, 1, 1)?;
+    show(rt, b"aaaab", 12, 2, 1)?;
+    show(rt, b"the quick brown fox", 1, 8, 1)?;
+    show(rt, b"the quick brown fox", 64, 8, 1)?;
+    show(rt, b"the quick brown fox", 64, 1, 1)?;
+    Ok(())
+}
+
+// Widths over 64: the ends of their words, and that the last one is filled.
+fn wide(rt: &impl Print, long: &[u8]) -> io::Result<()> {
+    show(rt, b"the quick brown fox", 65, 8, 2)?;
+    show(rt, b"the quick brown fox", 70, 8, 2)?;
+    show(rt, b"the quick brown fox", 127, 8, 2)?;
+    show(rt, b"the quick brown fox", 128, 8, 2)?;
+    show(rt, b"the quick brown fox", 129, 8, 3)?;
+    show(rt, b"the quick brown fox", 511, 8, 8)?;
+    show(rt, b"the quick brown fox", 512, 8, 8)?;
+    show(rt, long, 70, 8, 2)?;
+    show(rt, long, 512, 8, 8)?;
     Ok(())
 }
 
 // Each question's no, and that the first one decides. The long text has 4,097 bytes.
 fn refusals(rt: &impl Print, long: &[u8]) -> io::Result<()> {
-    show(rt, b"prof", 0, 8)?;
-    show(rt, b"prof", 65, 8)?;
-    show(rt, b"prof", 12, 0)?;
-    show(rt, b"prof", 12, 9)?;
-    show(rt, long, 64, 8)?;
-    show(rt, long, 0, 0)?;
-    show(rt, long, 64, 0)?;
+    show(rt, b"prof", 0, 8, 0)?;
+    show(rt, b"prof", 0, 8, 1)?;
+    show(rt, b"prof", 513, 8, 8)?;
+    show(rt, b"prof", 513, 8, 9)?;
+    show(rt, b"prof", 64, 8, 0)?;
+    show(rt, b"prof", 64, 8, 2)?;
+    show(rt, b"prof", 65, 8, 1)?;
+    show(rt, b"prof", 65, 8, 3)?;
+    show(rt, b"prof", 512, 8, 7)?;
+    show(rt, b"prof", 12, 0, 1)?;
+    show(rt, b"prof", 70, 9, 2)?;
+    show(rt, long, 64, 8, 1)?;
+    show(rt, long, 0, 0, 1)?;
+    show(rt, long, 64, 0, 1)?;
+    show(rt, long, 70, 0, 1)?;
+    show(rt, long, 70, 0, 2)?;
     Ok(())
 }
 
 // A query's words in a block's text: the signature covers the query's, and another one does not.
-fn covered(rt: &impl Print) -> io::Result<()> {
-    let block = show(rt, b"the quick brown fox\njumps", 64, 3)?;
-    let query = show(rt, b"fox the", 64, 3)?;
-    let other = show(rt, b"lazy dog", 64, 3)?;
-    let same = u8::from(signature::covers(block, query));
-    let another = u8::from(signature::covers(block, other));
+fn covered(rt: &impl Print, width: u32, lent: usize) -> io::Result<()>
+    requires { (0 < lent) × (lent ≤ MOST_WORDS) }
+{
+    let block = show(rt, b"the quick brown fox\njumps", width, 3, lent)?;
+    let query = show(rt, b"fox the", width, 3, lent)?;
+    let other = show(rt, b"lazy dog", width, 3, lent)?;
+    let same = u8::from(signature::covers(&block[..lent], &query[..lent]));
+    let another = u8::from(signature::covers(&block[..lent], &other[..lent]));
     println!(rt; "covers {same} {another}")
 }
 
@@ -100,9 +137,11 @@ fn main(rt: HostRuntime) -> io::Result<()> {
     fill(&mut text);
     triplets(&rt)?;
     edges(&rt)?;
-    show(&rt, &text[0..4096], 64, 8)?;
-    show(&rt, &text[0..4096], 12, 1)?;
+    show(&rt, &text[0..4096], 64, 8, 1)?;
+    show(&rt, &text[0..4096], 12, 1, 1)?;
+    wide(&rt, &text[0..4096])?;
     refusals(&rt, &text)?;
-    covered(&rt)?;
+    covered(&rt, 64, 1)?;
+    covered(&rt, 70, 2)?;
     words_of(&rt, &text)
 }

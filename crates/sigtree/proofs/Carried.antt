@@ -8,11 +8,13 @@ use mathlib.Core.Logic.{◌⊎◌, inl, inr}
 use mathlib.Core.Bool.{Bool, true, false}
 use mathlib.Core.List.{List, ◌++◌}
 use lib.ListN.{length, length-append, drop}
+use Rattle.model.specs.Wide.{number_in}
+use Rattle.model.specs.Tables.{signatures_of}
 use Rattle.model.specs.Questions.{Call, clear, file, withdraw, rebuild, search, audit, asks_tables, search_refusal, Reading, refused, carries, read_slip}
 use Rattle.model.specs.Ledger.{Report, bare}
 use Rattle.model.specs.Promises.{Listing, GivenUp, SearchPromise}
 use Rattle.model.specs.Lists.{Memory, TablesOnly, Gives, GivesReading}
-use Rattle.model.specs.PackedPromises.{PackedClear, PackedFile, PackedWithdraw, PackedRebuild, PackedSearch, Stays, packed_fit}
+use Rattle.model.specs.PackedPromises.{PackedClear, PackedFile, PackedWithdraw, PackedRebuild, PackedSearch, Stays, packed_fit, asks_packed}
 use Rattle.model.specs.PackedLists.{PackedMemory, PackedGives, PackedSlip, held}
 use Rattle.std.specs.Prelude.{Result}
 use Rattle.answers.specs.declared.refusal.Refusal.{Refusal}
@@ -29,14 +31,14 @@ bare_found o n k e = omega (arith, ap (λ (x : Report). x.found) e)
 list_fits : (n : ℕ) (list old new : List ℕ) → n ≡ length list → new ≡ list ++ old → n ≤ length new
 list_fits n list old new a b = omega (arith, ap length b, length-append list old)
 
-search_found : (sigs links : List ℕ) (q : ℕ) (marks output : List ℕ) (o : Report) (marks' output' : List ℕ) → SearchPromise sigs links q marks output o marks' output' → o.found ≤ length output'
-search_found sigs links q marks output o marks' output' p = go (ℕ_discrete (search_refusal (asks_tables sigs links) q (length marks) (length output)) 0)
+search_found : (words links : List ℕ) (q : List ℕ) (marks output : List ℕ) (o : Report) (marks' output' : List ℕ) → SearchPromise words links q marks output o marks' output' → o.found ≤ length output'
+search_found words links q marks output o marks' output' p = go (ℕ_discrete (search_refusal (asks_tables words links) q (length marks) (length output)) 0)
   where
-    any : Listing sigs links q marks output o marks' output' ⊎ GivenUp sigs marks output o marks' output' → o.found ≤ length output'
+    any : Listing (signatures_of words links) links (number_in q) marks output o marks' output' ⊎ GivenUp (signatures_of words links) marks output o marks' output' → o.found ≤ length output'
     any (inl x) = list_fits o.found x.list (drop (length x.list) output) output' x.found x.written
     any (inr x) = bare_found o 11 (length output') x.eleven
 
-    go : Dec (search_refusal (asks_tables sigs links) q (length marks) (length output) ≡ 0) → o.found ≤ length output'
+    go : Dec (search_refusal (asks_tables words links) q (length marks) (length output) ≡ 0) → o.found ≤ length output'
     go (yes e) = any (p.anyway e)
     go (no d) = bare_found o _ (length output') (p.refused d).0
 
@@ -53,21 +55,25 @@ reading_found (refused n) M o M' g = bare_found o n _ g.0
 reading_found (carries c) M o M' g = call_found c M o M' g
 
 -- what was found stands in the output
-packed_found : (r : Reading) (M : PackedMemory) (o : Report) (M' : PackedMemory) (fit : Bool) → fit ≡ packed_fit M.signatures M.links M.nodes → PackedGives r M o M'
+packed_found : (r : Reading) (M : PackedMemory) (o : Report) (M' : PackedMemory) (fit : Bool) → fit ≡ packed_fit M.links M.nodes → PackedGives r M o M'
     → o.found ≤ length M'.work.output
 packed_found r M o M' true e g = reading_found r (held M) o (held M') (g.asked (sym e)).0
 packed_found (refused n) M o M' false e g = bare_found o n _ (g.unread n refl).0
 packed_found (carries c) M o M' false e g = bare_found o 4 _ (g.unfit c refl (sym e)).0
 
+-- the reading of a slip on packed tables
+abbrev pub read_on : List ℕ → PackedMemory → Reading
+read_on bytes M = read_slip (asks_packed M.signatures M.links M.nodes) bytes
+
 -- A slip carried out: its promise, and room for what was found.
 abbrev pub Done : List ℕ → PackedMemory → Report → PackedMemory → Type 0
 Done bytes M o M' = PackedSlip bytes M o M' × (o.found ≤ length M'.work.output)
 
-pub done : (bytes : List ℕ) (M : PackedMemory) (o : Report) (M' : PackedMemory) (r : Reading) → r ≡ read_slip bytes → PackedGives r M o M' → Done bytes M o M'
+pub done : (bytes : List ℕ) (M : PackedMemory) (o : Report) (M' : PackedMemory) (r : Reading) → r ≡ read_on bytes M → PackedGives r M o M' → Done bytes M o M'
 done bytes M o M' r e g = (subst (λ (x : Reading). PackedGives x M o M') e g, packed_found r M o M' _ refl g)
 
 -- the same where the report is an answer alone
-pub done_bare : (bytes : List ℕ) (M : PackedMemory) (o : Report) (M' : PackedMemory) (r : Reading) (n : ℕ) → r ≡ read_slip bytes → o ≡ bare n → PackedGives r M (bare n) M' → Done bytes M o M'
+pub done_bare : (bytes : List ℕ) (M : PackedMemory) (o : Report) (M' : PackedMemory) (r : Reading) (n : ℕ) → r ≡ read_on bytes M → o ≡ bare n → PackedGives r M (bare n) M' → Done bytes M o M'
 done_bare bytes M o M' r n e a g = subst (λ (x : Report). Done bytes M x M') (sym a) (done bytes M (bare n) M' r e g)
 
 -- a refused slip carries no call
@@ -111,7 +117,7 @@ module _ (sigs links nodes sigs' links' nodes' scratch marks output : List ℕ) 
   pub clear_gives : (F : ℕ) → PackedClear sigs links nodes F n sigs' links' nodes' → PackedGives (carries (clear F)) M (bare n) M'
   clear_gives F p = record { unread = λ k e. absurd (not_refused _ k e); unfit = λ _ _ f. four (p.unfit f); asked = λ f. (((p.asked f).0, only), (p.asked f).1) }
 
-  pub file_gives : (b s : ℕ) → PackedFile sigs links nodes b s n sigs' links' nodes' → PackedGives (carries (file b s)) M (bare n) M'
+  pub file_gives : (b : ℕ) (s : List ℕ) → PackedFile sigs links nodes b s n sigs' links' nodes' → PackedGives (carries (file b s)) M (bare n) M'
   file_gives b s p = record { unread = λ k e. absurd (not_refused _ k e); unfit = λ _ _ f. four (p.unfit f); asked = λ f. (((p.asked f).0, only), (p.asked f).1) }
 
   pub withdraw_gives : (b : ℕ) → PackedWithdraw sigs links nodes b n sigs' links' nodes' → PackedGives (carries (withdraw b)) M (bare n) M'
@@ -125,7 +131,7 @@ rebuild_gives sigs links nodes links' nodes' scratch scratch' marks output n p =
     four : (n ≡ 4) × ((links' ≡ links) × (nodes' ≡ nodes) × (scratch' ≡ scratch)) → (bare n ≡ bare 4) × (lent sigs links' nodes' scratch' marks output ≡ lent sigs links nodes scratch marks output)
     four (e, (a, b, c)) = (ap bare e, rw (a, b, c) refl)
 
-pub search_gives : (sigs links nodes scratch marks output marks' output' : List ℕ) (q : ℕ) (o : Report) → PackedSearch sigs links nodes q marks output o marks' output'
+pub search_gives : (sigs links nodes scratch marks output marks' output' : List ℕ) (q : List ℕ) (o : Report) → PackedSearch sigs links nodes q marks output o marks' output'
     → PackedGives (carries (search q)) (lent sigs links nodes scratch marks output) o (lent sigs links nodes scratch marks' output')
 search_gives sigs links nodes scratch marks output marks' output' q o p =
     record { unread = λ k e. absurd (not_refused _ k e); unfit = λ _ _ f. four (p.unfit f).1; asked = λ f. ((p.asked f, record { signatures = refl; links = refl; scratch = refl }), stays_same o.answer links nodes) }

@@ -39,9 +39,9 @@ pub extern "C" fn sigtree_file(
     links: &mut [u32],
     nodes: &mut [u64],
     block: u32,
-    signature: u64,
+    signature: &[u64],
 ) -> u32
-    ensures { PackedFile signatures.old links.old nodes.old block signature result signatures.new links.new nodes.new }
+    ensures { PackedFile signatures.old links.old nodes.old block signature.now result signatures.new links.new nodes.new }
 {
     let mut tables = TablesMut {
         signatures,
@@ -104,14 +104,14 @@ pub extern "C" fn sigtree_search(
     signatures: &[u64],
     links: &[u32],
     nodes: &[u64],
-    query: u64,
+    query: &[u64],
     marks: &mut [u8],
     output: &mut [u32],
     found: &mut u32,
     compares: &mut u32,
     bits: &mut u32,
 ) -> u32
-    ensures { PackedSearch signatures.now links.now nodes.now query marks.old output.old (reported result found.new compares.new bits.new) marks.new output.new }
+    ensures { PackedSearch signatures.now links.now nodes.now query.now marks.old output.old (reported result found.new compares.new bits.new) marks.new output.new }
 {
     let outcome = search::search(signatures, links, nodes, query, marks, output);
     tell(outcome, found, compares, bits)
@@ -185,14 +185,12 @@ pub extern "C" fn sigtree_slip(
     )
 }
 
-// The signature of a text.
+// Signs a text: its signature in the lent words.
 #[unsafe(no_mangle)]
-pub extern "C" fn sigtree_sign(text: &[u8], width: u32, k: u32, answer: &mut u32) -> u64
-    ensures { SignPromise width k text.now answer.new result }
+pub extern "C" fn sigtree_sign(text: &[u8], width: u32, k: u32, signature: &mut [u64]) -> u32
+    ensures { SignPromise width k text.now signature.old result signature.new }
 {
-    let outcome = words::sign(text, width, k);
-    *answer = answers::answer(&outcome);
-    outcome.unwrap_or(0)
+    answer(&words::sign(text, width, k, signature))
 }
 
 // Where word n of a text stands. It stands in for the splitter, whose returned part C cannot have.

@@ -7,6 +7,7 @@ use mathlib.Core.Path.{◌≡◌, refl, sym, ◌∙◌, ap}
 use mathlib.Core.List.{List, [], ◌∷◌, ◌++◌}
 use lib.ListN.{length, get_or, take, drop, length-append, length-drop}
 use lib.Seq.{sets, length-take-le, drop_at, take_all, get_or-take, get_or-drop}
+use Rattle.model.specs.Limits.{most_blocks}
 use Rattle.model.specs.Build.{best_position}
 use Rattle.model.specs.Tables.{position_at, left_at, right_at, signature_of}
 use Rattle.model.specs.Stores.{◌↤◌, stores}
@@ -51,22 +52,22 @@ more_to (suc (suc n)) head node h = refl
 pub record Known (F : ℕ) (sigs g after nodes : List ℕ) (p k i t : ℕ) : Type 0 where
   pub measure : length g ≡ t
   pub group : Group F sigs g
-  pub small : length sigs ≤ 65535
+  pub small : length sigs ≤ most_blocks
   pub room : length nodes + 1 ≡ length sigs
   pub node : (1 ≤ i) × (i + length g ≤ length sigs + 1)
   pub halved : Halved F (signature_of sigs) g after p k
   pub many : 2 ≤ length g
 
-pub known : {F : ℕ} {sigs g after nodes : List ℕ} {p k i t : ℕ} → length g ≡ t → Group F sigs g → (length sigs ≤ 65535) × (length nodes + 1 ≡ length sigs) → (1 ≤ i) × (i + length g ≤ length sigs + 1)
+pub known : {F : ℕ} {sigs g after nodes : List ℕ} {p k i t : ℕ} → length g ≡ t → Group F sigs g → length sigs ≤ most_blocks → length nodes + 1 ≡ length sigs → (1 ≤ i) × (i + length g ≤ length sigs + 1)
     → Halved F (signature_of sigs) g after p k → 2 ≤ length g → Known F sigs g after nodes p k i t
-known e g r n h m = record { measure = e; group = g; small = r.0; room = r.1; node = n; halved = h; many = m }
+known e g s r n h m = record { measure = e; group = g; small = s; room = r; node = n; halved = h; many = m }
 
 -- the numbers in it: B blocks, a group of n blocks, after blocks after the split, k of them in the left half, and node i
 pub record Bounds (B n after k i : ℕ) : Type 0 where
   pub same : after ≡ n
   pub low : 1 ≤ k
   pub high : k < n
-  pub small : B ≤ 65535
+  pub small : B ≤ most_blocks
   pub from : 1 ≤ i
   pub to : i + n ≤ B + 1
 
@@ -169,11 +170,11 @@ module _ {F : ℕ} {sigs g after nodes : List ℕ} {p k i t : ℕ} (h : Known F 
       )
 
   -- what the call for the left half asks
-  pub left_asks : (l : List ℕ) → length l ≡ length nodes → (length low < t) × (Group F sigs low × (((B ≤ 65535) × (length l + 1 ≡ B)) × ((1 ≤ i + 1) × (i + 1 + length low ≤ B + 1))))
+  pub left_asks : (l : List ℕ) → length l ≡ length nodes → (length low < t) × (Group F sigs low × ((length l + 1 ≡ B) × ((1 ≤ i + 1) × (i + 1 + length low ≤ B + 1))))
   left_asks l e =
       let n = low_length in
       let q = some in
-      (omega (arith, h.measure), (low_group, ((h.small, ap (λ (m : ℕ). m + 1) e ∙ h.room), omega (arith, h.node))))
+      (omega (arith, h.measure), (low_group, (ap (λ (m : ℕ). m + 1) e ∙ h.room, omega (arith, h.node))))
 
   -- the group after the call for the left half, from k on
   module _ (ys : List ℕ) (same : length ys ≡ length (take k after)) where
@@ -193,12 +194,12 @@ module _ {F : ℕ} {sigs g after nodes : List ℕ} {p k i t : ℕ} (h : Known F 
     pub right_asks : (l : List ℕ) → length l ≡ length nodes
         → (length (take (length (ys ++ drop k after) - k) (drop k (ys ++ drop k after))) < t)
         × (Group F sigs (take (length (ys ++ drop k after) - k) (drop k (ys ++ drop k after)))
-        × (((B ≤ 65535) × (length l + 1 ≡ B))
+        × ((length l + 1 ≡ B)
         × ((1 ≤ i + k) × (i + k + length (take (length (ys ++ drop k after) - k) (drop k (ys ++ drop k after))) ≤ B + 1))))
     right_asks l e =
         let n = high_length in
         let q = some in
-        rw rest (omega (arith, h.measure), (high_group, ((h.small, ap (λ (m : ℕ). m + 1) e ∙ h.room), omega (arith, h.node))))
+        rw rest (omega (arith, h.measure), (high_group, (ap (λ (m : ℕ). m + 1) e ∙ h.room, omega (arith, h.node))))
 
   -- the words at the end
   pub finish : (links : List ℕ) (left right : ℕ) (l0 l1 l2 : List ℕ)

@@ -23,5 +23,7 @@ pub mod Lending
 pub mod Reached
 pub mod Either
 pub mod Held
+pub mod Rowed
+pub mod Numbers
 pub mod Sided
 pub mod Addressed

@@ -9,6 +9,7 @@ use lib.ListN.{length, get_or}
 use Rattle.model.specs.Signature.{bit_at}
 use Rattle.model.specs.Tables.{word, root_at, root_of, position_of, side_at}
 use Rattle.model.specs.File.{edge_at}
+use Rattle.model.specs.Limits.{widest}
 use Rattle.model.specs.Packed.{position_in, part_in, unpacked, Packs}
 use Rattle.model.proofs.Packing.{row_word, node_position}
 use Rattle.tables.specs.declared.place.Place.{Place}
@@ -102,12 +103,12 @@ module _ (B F : ℕ) (links nodes : List ℕ) (s : ℕ) where
               reached_over (suc j) k w = w
 
     -- the word of a node that it has passed, if any, has a position
-    pub passed_asks : (i : ℕ) → (i ≢ 0 → NodeFits B F U i) → F ≤ 64 → (i ≤ length nodes) × (F ≤ 64) × (i ≢ 0 → (1 ≤ position_in (get_or nodes (i - 1) 0)) × (position_in (get_or nodes (i - 1) 0) ≤ F))
-    passed_asks zero f h = (omega arith, h, λ n. absurd (n refl))
-    passed_asks (suc i) f h =
+    pub passed_asks : (places i : ℕ) → (i ≢ 0 → NodeFits B F U i) → F ≤ widest → F ≤ places → (i ≤ length nodes) × (F ≤ widest) × (F ≤ places) × (i ≢ 0 → (1 ≤ position_in (get_or nodes (i - 1) 0)) × (position_in (get_or nodes (i - 1) 0) ≤ F))
+    passed_asks places zero f h k = (omega arith, h, k, λ n. absurd (n refl))
+    passed_asks places (suc i) f h k =
         let g = f (omega arith) in
         let e = node_position B links nodes P (suc i) (omega arith) in
-        (omega (arith, P.nodes_long, g.0), h, λ _. (rw e at g.1, rw e at g.2))
+        (omega (arith, P.nodes_long, g.0), h, k, λ _. (rw e at g.1, rw e at g.2))
 
 -- a side below a node that the walk has passed
 module _ (B F : ℕ) (links nodes : List ℕ) (P : Packs B links nodes) (s i : ℕ) (some : i ≢ 0) (v p : ℕ) (is : v ≡ get_or nodes (i - 1) 0) (at : p ≡ position_in v) where

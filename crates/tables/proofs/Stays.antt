@@ -1,42 +1,22 @@
--- Stores to the five words and the rows, made in packed tables; and that packed tables stay as they are where the tables that they hold do.
+-- A node's stores, made in packed tables; and that packed tables stay as they are where the tables that they hold do.
 -- Assumes nothing.
 use Prim.Native.Nat.{ℕ, zero, suc, ◌-◌, ◌^◌, ◌≤◌, ◌<◌}
 use native.Mathlib.Omega.{arith}
-use mathlib.Core.Path.{◌≡◌, refl, sym, ◌∙◌, ap}
+use mathlib.Core.Path.{◌≡◌, sym, ◌∙◌, ap}
 use mathlib.Core.Logic.{◌≢◌, ◌⊎◌, inl, inr}
 use mathlib.Core.List.{List, [], ◌∷◌}
-use lib.ListN.{length, set, length-set}
+use lib.ListN.{length, set}
 use lib.Seq.{set_comm}
 use native.Mathlib.Decide.{ℕ_discrete}
 use Rattle.model.specs.Tables.{position_at, side_at, left_at, right_at}
-use Rattle.model.specs.Stores.{Store, ◌↤◌, stores}
-use Rattle.model.specs.Packed.{node_word, unpacked, Packs, packed_links, packed_nodes}
+use Rattle.model.specs.Stores.{◌↤◌, stores}
+use Rattle.model.specs.Packed.{unpacked, Packs, packed_links, packed_nodes}
 use Rattle.model.specs.Promises.{Changes}
 use Rattle.model.specs.PackedPromises.{Stays}
 use Rattle.tables.specs.Nodes.{sides_word}
-use Rattle.model.proofs.Packing.{row_store, node_store, packed_links_is, packed_nodes_is}
+use Rattle.model.proofs.Packing.{node_store, packed_links_is, packed_nodes_is}
 
--- every store is below address n
-abbrev pub Below : ℕ → List Store → Type 0
-Below n [] = Unit {0}
-Below n ((a ↤ v) ∷ ws) = (a < n) × Below n ws
-
-pub rows_stores : (links nodes : List ℕ) (n : ℕ) → length links ≡ n → (ws : List Store) → Below n ws → stores (unpacked links nodes) ws ≡ unpacked (stores links ws) nodes
-rows_stores links nodes n e [] h = refl
-rows_stores links nodes n e ((a ↤ v) ∷ ws) h =
-    let k = h.0 in
-    ap (λ (l : List ℕ). stores l ws) (row_store links nodes a v (omega arith)) ∙ rows_stores (set links a v) nodes n (length-set links a v ∙ e) ws h.1
-
--- a node written side by side
-pub sides_left : (p e x y : ℕ) → e ≡ 0 → sides_word p e x y ≡ node_word p x y
-unfolding sides_word
-sides_left p e x y z = rw (z, sides_word)
-
-pub sides_right : (p e x y : ℕ) → e ≢ 0 → sides_word p e x y ≡ node_word p y x
-unfolding sides_word
-sides_right p zero x y z = absurd (z refl)
-sides_right p (suc e) x y z = refl
-
+-- a node stored word by word, by the side that something goes to
 pub sides_store : (B : ℕ) (links nodes : List ℕ) → Packs B links nodes → (i p e x y : ℕ) → 1 ≤ i → i < B → e ≤ 1 → x < 2 ^ 17 → y < 2 ^ 17
     → stores (unpacked links nodes) ((position_at B i ↤ p) ∷ (side_at B i e ↤ x) ∷ (side_at B i (1 - e) ↤ y) ∷ []) ≡ unpacked links (set nodes (i - 1) (sides_word p e x y))
 unfolding sides_word

@@ -1,6 +1,6 @@
 -- What a store to lent tables leaves, by the links of document 01 that they hold.
 -- Assumes nothing.
-use Rattle.std.specs.Prelude.{ℕ, List, [], ◌∷◌, ◌-◌, ◌≡◌, ◌≤◌, length}
+use Rattle.std.specs.Prelude.{ℕ, List, [], ◌∷◌, ◌+◌, ◌-◌, ◌≡◌, ◌≤◌, length}
 use Rattle.model.specs.Limits.{most_blocks}
 use Rattle.model.specs.Tables.{position_at, side_at}
 use Rattle.model.specs.Stores.{Store, ◌↤◌}
@@ -12,9 +12,9 @@ use Rattle.tables.specs.declared.lent.TablesMut.{TablesMut}
 abbrev pub links_in : TablesMut → List ℕ
 links_in t = unpacked t.links.now t.nodes.now
 
--- as many blocks as signatures, and not too many
+-- one block more than nodes, and not too many
 abbrev pub blocks_in : TablesMut → ℕ
-blocks_in t = length t.signatures.now
+blocks_in t = length t.nodes.now + 1
 
 abbrev pub PacksIn : TablesMut → Type 0
 PacksIn t = Packs (blocks_in t) t.links.now t.nodes.now × (blocks_in t ≤ most_blocks)
@@ -39,4 +39,11 @@ pub record Becomes (old new : TablesMut) (links' : List ℕ) : Type 0 where
   pub links_long : length new.links.now ≡ length old.links.now
   pub nodes_long : length new.nodes.now ≡ length old.nodes.now
   pub signatures : new.signatures.now ≡ old.signatures.now
+  pub loans : SameLoans old new
+
+-- the signatures are these words now, and all else is as it was
+pub record Signs (old new : TablesMut) (words' : List ℕ) : Type 0 where
+  pub words : new.signatures.now ≡ words'
+  pub links : new.links.now ≡ old.links.now
+  pub nodes : new.nodes.now ≡ old.nodes.now
   pub loans : SameLoans old new

@@ -6,5 +6,6 @@ pub mod Places
 pub mod Changed
 pub mod Walked
 pub mod Forms
+pub mod Rows
 pub mod Held
 pub mod Parts

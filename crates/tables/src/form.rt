@@ -1,10 +1,9 @@
 // The two forms of the tables. What only reads, as the audit does, is written once for both.
 ghost use Rattle.std.specs.Prelude.{◌≡◌, ◌≤◌, ◌<◌, ℕ, List, [], length};
-ghost use Rattle.model.specs.Tables.{width_of};
-ghost use Rattle.model.specs.Sound.{FitsAt};
 ghost use Rattle.model.specs.Packed.{unpacked};
-ghost use Rattle.tables.specs.Fits.{Fits, PartsOf};
-ghost use Rattle.tables.specs.Forms.{packed_fits, unpacked_fits, unpacked_held};
+ghost use Rattle.tables.specs.Fits.{Fits, FitsUnpacked, PartsOf};
+ghost use Rattle.tables.specs.Forms.{packed_fits, packed_held, unpacked_fits, unpacked_held};
+ghost use Rattle.tables.specs.Rows.{numbers};
 
 use crate::nodes::{self, Parts};
 use crate::packed::Tables;
@@ -13,6 +12,9 @@ use crate::unpacked::Unpacked;
 
 // A form: the rows, and the nodes wherever their words live.
 pub trait Form {
+    // the words of the signature slice, and the numbers that they hold
+    ghost words: { Self → List ℕ };
+
     ghost signatures: { Self → List ℕ };
 
     ghost links: { Self → List ℕ };
@@ -22,7 +24,7 @@ pub trait Form {
 
     // the five words, the rows and the signatures
     fn rows(&self) -> Rows<'_>
-        ensures { (result.signatures.now ≡ signatures self.now) × (result.links.now ≡ links self.now) };
+        ensures { (numbers result ≡ signatures self.now) × (result.links.now ≡ links self.now) };
 
     // the node's position and its two references
     fn node(&self, node: usize) -> Parts
@@ -32,19 +34,21 @@ pub trait Form {
     ghost fits: { (form : Self) → Fits (signatures form) (links form) (nodes form) };
 
     // question 4's yes to the tables held
-    ghost held_fit: { (form : Self) → FitsAt (length (signatures form)) (width_of (unpacked (links form) (nodes form))) (signatures form) (unpacked (links form) (nodes form)) };
+    ghost held_fit: { (form : Self) → FitsUnpacked (signatures form) (words form) (unpacked (links form) (nodes form)) };
 }
 
 impl<'a> Form for Tables<'a> {
-    ghost signatures = { λ t. t.rows.signatures.now };
+    ghost words = { λ t. t.rows.signatures.now };
+
+    ghost signatures = { λ t. numbers t.rows };
 
     ghost links = { λ t. t.rows.links.now };
 
     ghost nodes = { λ t. t.nodes.now };
 
-    ghost fits = { λ t. packed_fits _ _ _ t.rows.fit t.fits };
+    ghost fits = { λ t. packed_fits _ _ _ _ t.rows.fit.rows t.fits };
 
-    ghost held_fit = { λ t. t.fits.fits };
+    ghost held_fit = { λ t. packed_held _ _ _ _ t.fits };
 
     fn rows(&self) -> Rows<'_> {
         self.rows
@@ -56,15 +60,17 @@ impl<'a> Form for Tables<'a> {
 }
 
 impl<'a> Form for Unpacked<'a> {
-    ghost signatures = { λ t. t.rows.signatures.now };
+    ghost words = { λ t. t.rows.signatures.now };
+
+    ghost signatures = { λ t. numbers t.rows };
 
     ghost links = { λ t. t.rows.links.now };
 
     ghost nodes = { λ t. [] };
 
-    ghost fits = { λ t. unpacked_fits _ _ t.rows.fit t.fits };
+    ghost fits = { λ t. unpacked_fits _ _ _ t.rows.fit.rows t.fits };
 
-    ghost held_fit = { λ t. unpacked_held _ _ t.fits };
+    ghost held_fit = { λ t. unpacked_held _ _ _ t.fits };
 
     fn rows(&self) -> Rows<'_> {
         self.rows

@@ -1,12 +1,13 @@
 // Tables that are lent to be changed. A store is named by what it stores to; what the stores leave is said of document 01's links, wherever
 // a word of theirs lives: in the links, or in a part of a node's word.
-ghost use Rattle.std.specs.Prelude.{◌≡◌, ◌&&◌, ◌^◌, ◌≤◌, ◌<◌, set, IfOk};
+ghost use Rattle.std.specs.Prelude.{◌≡◌, ◌&&◌, ◌*◌, ◌^◌, ◌≤◌, ◌<◌, length, replicate, set, IfOk};
+ghost use Rattle.model.specs.Wide.{set_words};
 ghost use Rattle.answers.specs.Answers.{answer_of};
 ghost use Rattle.model.specs.Tables.{free_at, count_at, next_at, filed_at};
 ghost use Rattle.model.specs.Stores.{stores};
 ghost use Rattle.model.specs.Questions.{ask, asks_tables, tables_fit};
 ghost use Rattle.model.specs.PackedPromises.{packed_fit};
-ghost use Rattle.tables.specs.Changed.{links_in, blocks_in, node_stores, PacksIn, IsRead, Becomes};
+ghost use Rattle.tables.specs.Changed.{links_in, blocks_in, node_stores, PacksIn, IsRead, Becomes, Signs};
 ghost use Rattle.tables.specs.Places.{address_of, IsPlace};
 ghost use Rattle.tables.specs.Sides.{side_number};
 
@@ -29,10 +30,26 @@ pub struct TablesMut<'a> {
 impl TablesMut<'_> {
     // Question 4, and the tables to be read.
     pub fn read(&self) -> Result<Tables<'_>, Refusal>
-        ensures asked { answer_of result ≡ ask 4 (packed_fit self.now.signatures.now self.now.links.now self.now.nodes.now && tables_fit (asks_tables self.now.signatures.now (links_in self.now))) 0 }
+        ensures asked { answer_of result ≡ ask 4 (packed_fit self.now.links.now self.now.nodes.now && tables_fit (asks_tables self.now.signatures.now (links_in self.now))) 0 }
         ensures read { IfOk result (IsRead self.now) }
     {
         Tables::of(self.signatures, self.links, self.nodes)
+    }
+
+    // Stores the block's signature.
+    pub fn set_signature(&mut self, block: usize, signature: &[u64])
+        requires { (1 ≤ block) × (block * length signature.now ≤ length self.old.signatures.now) × (1 ≤ length signature.now) }
+        ensures { Signs self.old self.new (set_words (length signature.now) self.old.signatures.now block signature.now) }
+    {
+        rows::set_signature(self.signatures, block, signature);
+    }
+
+    // Makes the block's signature 0, of so many words.
+    pub fn clear_signature(&mut self, words: usize, block: usize)
+        requires { (1 ≤ block) × (block * words ≤ length self.old.signatures.now) × (1 ≤ words) }
+        ensures { Signs self.old self.new (set_words words self.old.signatures.now block (replicate words 0)) }
+    {
+        rows::clear_signature(self.signatures, words, block);
     }
 
     // Stores the count.

@@ -5,9 +5,10 @@ ghost use Rattle.model.specs.Questions.{ask, asks_tables, tables_fit};
 ghost use Rattle.model.specs.PackedPromises.{packed_fit};
 ghost use Rattle.answers.specs.Answers.{answer_of};
 ghost use Rattle.tables.specs.Fits.{FitsPacked};
+ghost use Rattle.tables.specs.Rows.{numbers};
 
-use crate::front;
 use crate::rows::Rows;
+use crate::{address, front};
 use answers::Refusal;
 
 // The rows, and a word for each node.
@@ -15,7 +16,7 @@ use answers::Refusal;
 pub struct Tables<'a> {
     pub rows: Rows<'a>,
     pub nodes: &'a [u64],
-    pub ghost fits: { FitsPacked rows.signatures.now rows.links.now nodes.now },
+    pub ghost fits: { FitsPacked (numbers rows) rows.signatures.now rows.links.now nodes.now },
 }
 
 impl<'a> Tables<'a> {
@@ -26,16 +27,23 @@ impl<'a> Tables<'a> {
         links: &'a [u32],
         nodes: &'a [u64],
     ) -> Result<Tables<'a>, Refusal>
-        ensures asked { answer_of result ≡ ask 4 (packed_fit signatures.now links.now nodes.now && tables_fit (asks_tables signatures.now (unpacked links.now nodes.now))) 0 }
+        ensures asked { answer_of result ≡ ask 4 (packed_fit links.now nodes.now && tables_fit (asks_tables signatures.now (unpacked links.now nodes.now))) 0 }
         ensures read { IfOk result (λ t. (t.rows.signatures.now ≡ signatures.now) × (t.rows.links.now ≡ links.now) × (t.nodes.now ≡ nodes.now)) }
     {
-        let blocks = signatures.len();
-        if front::lengths_fit(blocks, links.len(), nodes.len()) && front::words_fit(links, blocks) {
-            return Ok(Tables {
-                rows: Rows { signatures, links },
-                nodes,
-            });
+        let blocks = front::packed_blocks(links.len());
+        if !front::lengths_fit(links.len(), nodes.len()) || !front::words_fit(links, blocks) {
+            return Err(Refusal::Unfit);
         }
-        Err(Refusal::Unfit)
+        let width = links[address::WIDTH];
+        if !front::signatures_fit(signatures.len(), blocks, width) {
+            return Err(Refusal::Unfit);
+        }
+        let rows = Rows {
+            signatures,
+            links,
+            blocks,
+            words: signature::words_of(width),
+        };
+        Ok(Tables { rows, nodes })
     }
 }

@@ -8,6 +8,14 @@ use crate::lent::TablesMut;
 use crate::{address, nodes, rows};
 
 impl TablesMut<'_> {
+    // The number of blocks.
+    pub fn blocks(&self) -> usize
+        requires { PacksIn self.now }
+        ensures { result ≡ blocks_in self.now }
+    {
+        self.nodes.len() + 1
+    }
+
     // The count of filed blocks.
     pub fn count(&self) -> u32
         requires { PacksIn self.now }

@@ -1,19 +1,19 @@
 // Tables of 5 * B + 2 links, lent to be read, of which question 4 says yes.
-ghost use Rattle.std.specs.Prelude.{◌≡◌, IfOk, length};
-ghost use Rattle.model.specs.Tables.{width_of};
-ghost use Rattle.model.specs.Sound.{FitsAt};
+ghost use Rattle.std.specs.Prelude.{◌≡◌, IfOk};
 ghost use Rattle.model.specs.Questions.{ask, asks_tables, tables_fit};
 ghost use Rattle.answers.specs.Answers.{answer_of};
+ghost use Rattle.tables.specs.Fits.{FitsUnpacked};
+ghost use Rattle.tables.specs.Rows.{numbers};
 
-use crate::front;
 use crate::rows::Rows;
+use crate::{address, front};
 use answers::Refusal;
 
 // The rows, and behind them in the same links three words for each node.
 #[derive(Clone, Copy)]
 pub struct Unpacked<'a> {
     pub rows: Rows<'a>,
-    pub ghost fits: { FitsAt (length rows.signatures.now) (width_of rows.links.now) rows.signatures.now rows.links.now },
+    pub ghost fits: { FitsUnpacked (numbers rows) rows.signatures.now rows.links.now },
 }
 
 impl<'a> Unpacked<'a> {
@@ -22,12 +22,20 @@ impl<'a> Unpacked<'a> {
         ensures asked { answer_of result ≡ ask 4 (tables_fit (asks_tables signatures.now links.now)) 0 }
         ensures read { IfOk result (λ t. (t.rows.signatures.now ≡ signatures.now) × (t.rows.links.now ≡ links.now)) }
     {
-        let blocks = signatures.len();
-        if front::unpacked_lengths(blocks, links.len()) && front::words_fit(links, blocks) {
-            return Ok(Unpacked {
-                rows: Rows { signatures, links },
-            });
+        let blocks = front::unpacked_blocks(links.len());
+        if !front::unpacked_lengths(links.len()) || !front::words_fit(links, blocks) {
+            return Err(Refusal::Unfit);
         }
-        Err(Refusal::Unfit)
+        let width = links[address::WIDTH];
+        if !front::signatures_fit(signatures.len(), blocks, width) {
+            return Err(Refusal::Unfit);
+        }
+        let rows = Rows {
+            signatures,
+            links,
+            blocks,
+            words: signature::words_of(width),
+        };
+        Ok(Unpacked { rows })
     }
 }

@@ -9,4 +9,3 @@ pub mod Withdrawing
 pub mod Raising
 pub mod Withdrawn
 pub mod Promised
-pub mod Packed

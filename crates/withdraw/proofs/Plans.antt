@@ -103,7 +103,7 @@ free_next B L r [] q = omega arith
 free_next B L r (i ∷ is) q = let x = q.0 in let y = q.2 in omega arith
 
 -- and by where the walk ends there is a block to withdraw, and its chain is found
-module _ (sigs L : List ℕ) (b : ℕ) (A : Passed sigs L b) where
+module _ (sigs L : List ℕ) (b : ℕ) (A : Passed (length sigs) L b) where
   module _ (S : Sound sigs L) where
     C : Found (length sigs) (width_of L) sigs L b
     C = found_chain S b A.from A.to (omega (arith, S.filed_bit b A.from A.to, A.filed))
@@ -112,10 +112,10 @@ module _ (sigs L : List ℕ) (b : ℕ) (A : Passed sigs L b) where
   some_filed z S = absurd (omega (arith, S.counted, filed_one L b (length sigs) A.from A.to, A.filed))
 
   pub free_small : 2 ^ 17 ≤ free_of L → PlansRight sigs L b None
-  free_small h S = absurd (omega (arith, free_next (length sigs) L (free_of L) S.free S.free_holds, A.fits.blocks_to))
+  free_small h S = absurd (omega (arith, free_next (length sigs) L (free_of L) S.free S.free_holds, S.fits.blocks_to))
 
   pub next_small : 2 ^ 17 ≤ next_of L b → PlansRight sigs L b None
-  next_small h S = absurd (omega (arith, chain_next (length sigs) L (C S).head (C S).others b (C S).chain (C S).meets, A.fits.blocks_to))
+  next_small h S = absurd (omega (arith, chain_next (length sigs) L (C S).head (C S).others b (C S).chain (C S).meets, S.fits.blocks_to))
 
   module _ (s F : ℕ) (is_s : s ≡ signature_of sigs b) (is_F : F ≡ width_of L) where
     pub walk_lost : (above : ℕ) → Ends (length sigs) F L s 0 above → PlansRight sigs L b None

@@ -5,20 +5,23 @@
 use Prim.Native.Nat.{ℕ, ◌-◌, ◌≤◌}
 use native.Mathlib.Decide.{ℕ_discrete}
 use native.Mathlib.Omega.{arith}
-use mathlib.Core.Path.{◌≡◌, refl, sym, subst}
+use mathlib.Core.Path.{◌≡◌, refl, sym, subst, ◌∙◌, ap}
 use mathlib.Core.Logic.{◌⊎◌, inl, inr, ◌≢◌}
 use mathlib.Core.List.Memᴰ
 use mathlib.Core.List.{List, [], ◌∷◌, Memᴰ}
-use lib.ListN.{length, length-set}
+use lib.ListN.{length, length-set, set, replicate, length-replicate}
 use borrow.Author.Tests.{eq-eqb, ne_eqb, le-leb, lt-leb}
+use Rattle.model.specs.Wide.{word_count, number_in}
 use Rattle.model.specs.Tree.{remove}
-use Rattle.model.specs.Tables.{word, root_at, width_of, root_of, next_of, filed_of, signature_of, tree_of}
-use Rattle.model.specs.Sound.{Shape, tip, Rooted, none, some, Holds, blocks_in, SoundAt, Sound}
+use Rattle.model.specs.Tables.{word, root_at, width_of, root_of, next_of, filed_of, signature_of, tree_of, signatures_of}
+use Rattle.model.specs.Sound.{Shape, tip, Rooted, none, some, Holds, blocks_in, SoundAt, Sound, SoundLent}
 use Rattle.model.specs.Stores.{stores}
 use Rattle.model.specs.File.{spot_of}
-use Rattle.model.specs.Withdraw.{parent_of, withdraw_stores, withdraw_signatures, withdraw_links}
+use Rattle.model.specs.Withdraw.{parent_of, withdraw_stores, withdraw_signatures, withdraw_links, withdraw_words}
 use Rattle.model.specs.Questions.{withdraw}
 use Rattle.model.specs.Ledger.{unfiled, ledger_of, entered}
+use Rattle.model.proofs.Wide.{number_zeros}
+use Rattle.tables.proofs.Numbers.{set_spelt, set_lent}
 use Rattle.tables.proofs.Trees.{depth_root}
 use Rattle.tables.proofs.Sides.{forked, edge_small, sides_held}
 use Rattle.tables.proofs.Ways.{Way, Reached, reach, spot, part_holds, found, spot_from_spot}
@@ -156,3 +159,27 @@ module _ {sigs links : List ℕ} (S : Sound sigs links) (b : ℕ) (b1 : 1 ≤ b)
   pub withdraw_ledger : ledger_of (withdraw_signatures sigs b) (withdraw_links sigs links b) ≡ entered (ledger_of sigs links) (withdraw b)
   withdraw_ledger = ledger_set sigs links (withdraw_signatures sigs b) (withdraw_links sigs links b) b unfiled b1 bB (length-set sigs (b - 1) 0) left.kept.width
       (entry_unfiled (withdraw_signatures sigs b) (withdraw_links sigs links b) b withdraw_own.0) withdraw_others
+
+-- the same of the tables as they are lent: the words spell the signatures, and are sound
+module _ (words links : List ℕ) (S : SoundLent words links) (b : ℕ) (b1 : 1 ≤ b) (bB : b ≤ length (signatures_of words links)) (filed : filed_of links b ≡ 1) where
+  abbrev after : List ℕ
+  after = withdraw_links (signatures_of words links) links b
+
+  abbrev zeros : List ℕ
+  zeros = replicate (word_count (width_of links)) 0
+
+  stays : (length after ≡ length links) × (width_of after ≡ width_of links)
+  stays = let l = withdraw_lengths S.sound b b1 bB filed in (l.1, l.2)
+
+  zero : number_in zeros ≡ 0
+  zero = number_zeros (word_count (width_of links))
+
+  pub withdraw_spelt : signatures_of (withdraw_words words links b) after ≡ withdraw_signatures (signatures_of words links) b
+  withdraw_spelt =
+      set_spelt words links after b zeros S b1 bB (length-replicate (word_count (width_of links)) 0) stays.0 stays.1
+      ∙ ap (set (signatures_of words links) (b - 1)) zero
+
+  pub withdraw_lent : SoundLent (withdraw_words words links b) after
+  withdraw_lent =
+      set_lent words links after b zeros S b1 bB (length-replicate (word_count (width_of links)) 0) stays.0 stays.1
+      (rw zero (withdraw_sound S.sound b b1 bB filed))

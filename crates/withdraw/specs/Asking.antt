@@ -1,12 +1,10 @@
 -- A withdrawal that no question refuses, and what it knows.
 -- Assumes nothing.
-use Rattle.std.specs.Prelude.{ℕ, ◌≤◌, ◌≢◌, List, length}
-use Rattle.model.specs.Tables.{width_of, filed_of}
-use Rattle.model.specs.Sound.{FitsAt}
+use Rattle.std.specs.Prelude.{ℕ, ◌≤◌, ◌≢◌, List}
+use Rattle.model.specs.Tables.{filed_of}
 
--- questions 4, 5 and 8, answered with yes; a filed word above 1 counts as filed
-pub record Passed (sigs links : List ℕ) (b : ℕ) : Type 0 where
-  pub fits : FitsAt (length sigs) (width_of links) sigs links
+-- Of tables of B blocks, which fit: questions 5 and 8 are answered with yes; a filed word above 1 counts as filed.
+pub record Passed (B : ℕ) (links : List ℕ) (b : ℕ) : Type 0 where
   pub from : 1 ≤ b
-  pub to : b ≤ length sigs
+  pub to : b ≤ B
   pub filed : filed_of links b ≢ 0

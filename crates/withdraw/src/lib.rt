@@ -22,7 +22,8 @@ pub fn withdraw(tables: &mut TablesMut, block: u32) -> Result<(), Refusal>
     let read = tables.read()?;
     question::ask(&read, block)?;
     let plan = plan::plan_block(&read, block).ok_or(Refusal::Unsound)?;
+    let words = read.rows.words;
     store::carry_out(tables, block, plan);
-    tables.signatures[block as usize - 1] = 0;
+    tables.clear_signature(words, block as usize);
     Ok(())
 }

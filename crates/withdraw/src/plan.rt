@@ -6,7 +6,7 @@ ghost use Rattle.tables.specs.Places.{address_of};
 ghost use Rattle.tables.specs.Sides.{side_number};
 ghost use Rattle.tables.specs.Walk.{HeldBy, below_at};
 ghost use Rattle.tables.specs.Walked.{parent_at, parent_node, IsParent, IsInside};
-ghost use Rattle.tables.specs.Held.{blocks_held, held};
+ghost use Rattle.tables.specs.Held.{signatures_held, blocks_held, held};
 ghost use Rattle.withdraw.specs.Asking.{Passed};
 ghost use Rattle.withdraw.specs.Plan.{PlanFits, IsBefore, PlansChain, PlansRaise, PlansHead, PlansRight};
 
@@ -117,8 +117,8 @@ fn plan_head(tables: &Tables, block: u32, walked: Walked) -> Plan
 // The whole plan: walks by the block's own signature to its chain. None for unfit tables.
 #[inline(always)]
 pub fn plan_block(tables: &Tables, block: u32) -> Option<Plan>
-    requires { Passed tables.now.rows.signatures.now (held tables.now) block }
-    ensures right { PlansRight tables.now.rows.signatures.now (held tables.now) block result }
+    requires { Passed (blocks_held tables.now) (held tables.now) block }
+    ensures right { PlansRight (signatures_held tables.now) (held tables.now) block result }
     ensures within { PlanFits (blocks_held tables.now) (held tables.now) result }
 {
     let rows = tables.rows;

@@ -41,7 +41,8 @@ fn lead(tables: &mut TablesMut, block: usize, place: Place, next: u32)
     tables.set_reference(place, next);
 }
 
-// The sibling takes the place of its parent, which becomes the first free node.
+// The sibling takes the place of its parent, which becomes the first free node. Inlined, so that the plan's parts stay in registers.
+#[inline(always)]
 fn raise(tables: &mut TablesMut, block: usize, freed: FreedNode)
     requires can_withdraw { CanWithdraw tables.old block }
     requires inside { IsPlace (blocks_in tables.old) freed.above × (1 ≤ freed.node) × (freed.node < blocks_in tables.old) × (freed.sibling < 2 ^ 17) × (freed.free < 2 ^ 17) × (freed.free ≡ free_of (links_in tables.old)) }

@@ -1,18 +1,22 @@
 -- The cover theorem: the OR over the block's words covers each of them, so it covers the OR over the query's where those are among
 -- them. And what a word sets: positions 1 to F, at most K, exactly those; so a text's signature is one of width F.
 -- Assumes nothing.
-use mathlib.Core.Path.{◌≡◌, refl, sym, subst}
+use mathlib.Core.Path.{◌≡◌, refl, sym, ap, ◌∙◌, subst}
 use mathlib.Core.List.Memᴰ
 use mathlib.Core.List.{List, [], ◌∷◌, Memᴰ}
 use mathlib.Core.Logic.{◌⊎◌, inl, inr}
-use Prim.Native.Nat.{ℕ, ◌^◌, ◌≤◌, ◌<◌, min}
+use Prim.Native.Nat.{ℕ, ◌*◌, ◌^◌, ◌≤◌, ◌<◌, min}
+use native.Mathlib.Nat.{lt_of_lt_of_le}
 use native.Mathlib.Decide.{dec_lt, ℕ_discrete}
 use native.Mathlib.Omega.{arith}
 use lib.Bits.{bit_or, or_lt}
-use lib.Pow.{pow_pos}
+use lib.Pow.{pow_pos, pow_mono}
 use lib.ListN.{length, length-take}
 use Rattle.model.specs.Signature.{bit_at, Covers}
-use Rattle.model.specs.Words.{words_of, triplets_from, triplets, different, positions_of, set_all, word_signature, or_over, text_signature, sign_refusal, SignPromise}
+use Rattle.model.specs.Limits.{word_bits}
+use Rattle.model.specs.Wide.{word_count, number_in}
+use Rattle.model.proofs.Wide.{words_length, number_words}
+use Rattle.model.specs.Words.{words_of, triplets_from, triplets, different, positions_of, word_signature, or_over, text_signature, sign_refusal, SignPromise}
 use Rattle.signature.proofs.Covering.{covers_zero, covers_trans, covers_left, covers_right, covers_or}
 use Rattle.words.specs.Pass.{Inside}
 use Rattle.words.proofs.Triplets.{position_inside}
@@ -48,22 +52,6 @@ pub cover : (F K : ℕ) (query block : List ℕ) → ((w : List ℕ) → Memᴰ 
 unfolding text_signature
 cover F K query block h = words_covered F K (words_of query) (words_of block) h
 
--- what the signer gives where it answers 0
-signed : (F K : ℕ) (text : List ℕ) (s : ℕ) → SignPromise F K text 0 s → s ≡ text_signature F K text
-signed F K text s p = go (ℕ_discrete (sign_refusal F K text) 0)
-  where
-    go : Dec (sign_refusal F K text ≡ 0) → s ≡ text_signature F K text
-    go (yes e) = (p.done e).1
-    go (no n) = absurd (n (sym (p.refused n).0))
-
--- the same of two calls of the signer with one width and one K
-pub sign_covers : (F K : ℕ) (query block : List ℕ) (q b : ℕ) → SignPromise F K query 0 q → SignPromise F K block 0 b
-    → ((w : List ℕ) → Memᴰ w (words_of query) → Memᴰ w (words_of block))
-    → Covers F b q
-sign_covers F K query block q b x y h =
-    subst (λ (n : ℕ). Covers F n q) (sym (signed F K block b y))
-    (subst (λ (n : ℕ). Covers F (text_signature F K block) n) (sym (signed F K query q x)) (cover F K query block h))
-
 -- ---- what a word sets
 
 inside_from : (F a b : ℕ) (l : List ℕ) → 1 ≤ F → Inside F (triplets_from F a b l)
@@ -92,21 +80,57 @@ pub word_bit : (F K : ℕ) (w : List ℕ) (j : ℕ) → 1 ≤ F → j ≤ F → 
 unfolding word_signature
 word_bit F K w j h q = set_bit F (positions_of F K w) j (positions_inside F K w h) q
 
+-- a word's signature is below 2 ^ F
+pub word_below : (F K : ℕ) (w : List ℕ) → 1 ≤ F → word_signature F K w < 2 ^ F
+unfolding word_signature
+word_below F K w h = set_below F (positions_of F K w) (positions_inside F K w h)
+
 words_below : (F K : ℕ) (ws : List (List ℕ)) → 1 ≤ F → or_over F K ws < 2 ^ F
-unfolding or_over word_signature
+unfolding or_over
 words_below F K [] h = pow_pos F
-words_below F K (w ∷ ws) h = or_lt F (set_all F (positions_of F K w)) (or_over F K ws) (set_below F (positions_of F K w) (positions_inside F K w h)) (words_below F K ws h)
+words_below F K (w ∷ ws) h = or_lt F (word_signature F K w) (or_over F K ws) (word_below F K w h) (words_below F K ws h)
 
 -- the signature of a text is below 2 ^ F
 pub signature_below : (F K : ℕ) (text : List ℕ) → 1 ≤ F → text_signature F K text < 2 ^ F
 unfolding text_signature
 signature_below F K text h = words_below F K (words_of text) h
 
--- whatever the signer answers, it gives a signature of the width
-pub sign_fits : (F K : ℕ) (text : List ℕ) (answer s : ℕ) → SignPromise F K text answer s → s < 2 ^ F
-sign_fits F K text answer s p = go (ℕ_discrete (sign_refusal F K text) 0) (dec_lt F 1)
-  where
-    go : Dec (sign_refusal F K text ≡ 0) → Dec (F < 1) → s < 2 ^ F
-    go (no n) d = subst (λ (k : ℕ). k < 2 ^ F) (sym (p.refused n).1) (pow_pos F)
-    go (yes e) (yes l) = absurd (omega (arith, no_width F K text l))
-    go (yes e) (no g) = subst (λ (k : ℕ). k < 2 ^ F) (sym (p.done e).1) (signature_below F K text (omega arith))
+-- ---- what the signer gives where it answers 0
+
+module _ (F K : ℕ) (text lent words : List ℕ) (p : SignPromise F K text lent 0 words) where
+  passed : sign_refusal F K (length lent) text ≡ 0
+  passed = go (ℕ_discrete (sign_refusal F K (length lent) text) 0)
+    where
+      go : Dec (sign_refusal F K (length lent) text ≡ 0) → sign_refusal F K (length lent) text ≡ 0
+      go (yes e) = e
+      go (no n) = absurd (n (sym (p.refused n).0))
+
+  some_width : 1 ≤ F
+  some_width = go (dec_lt F 1)
+    where
+      go : Dec (F < 1) → 1 ≤ F
+      go (yes l) = absurd (omega (arith, no_width F K (length lent) text l, passed))
+      go (no g) = omega arith
+
+  -- W words
+  pub sign_long : length words ≡ word_count F
+  sign_long = ap length (p.done passed).1 ∙ words_length (word_count F) (text_signature F K text)
+
+  -- in which the text's signature stands
+  pub signed : number_in words ≡ text_signature F K text
+  signed =
+      let w : F ≤ word_bits * word_count F = omega arith in
+      ap number_in (p.done passed).1
+      ∙ number_words (word_count F) (text_signature F K text) (lt_of_lt_of_le (signature_below F K text some_width) (pow_mono w))
+
+  -- which is one of the width
+  pub sign_fits : number_in words < 2 ^ F
+  sign_fits = subst (λ (n : ℕ). n < 2 ^ F) (sym signed) (signature_below F K text some_width)
+
+-- the cover theorem of two calls of the signer with one width and one K
+pub sign_covers : (F K : ℕ) (query block lq lb q b : List ℕ) → SignPromise F K query lq 0 q → SignPromise F K block lb 0 b
+    → ((w : List ℕ) → Memᴰ w (words_of query) → Memᴰ w (words_of block))
+    → Covers F (number_in b) (number_in q)
+sign_covers F K query block lq lb q b x y h =
+    subst (λ (n : ℕ). Covers F n (number_in q)) (sym (signed F K block lb b y))
+    (subst (λ (n : ℕ). Covers F (text_signature F K block) n) (sym (signed F K query lq q x)) (cover F K query block h))

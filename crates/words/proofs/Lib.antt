@@ -9,5 +9,6 @@ pub mod Signing
 pub mod Triplets
 pub mod Different
 pub mod Setting
+pub mod Adding
 pub mod Asked
 mod Examples

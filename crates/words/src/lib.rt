@@ -1,6 +1,7 @@
-// Words: the splitter, which gives back a word of a text, and the signer, which gives the text's signature.
+// Words: the splitter, which gives back a word of a text, and the signer, which fills lent words with the text's signature.
 #![tactic(auto)]
 
+mod own;
 mod question;
 mod signer;
 mod splitter;
@@ -9,7 +10,6 @@ ghost use Rattle.std.specs.Prelude.{◌≤◌, length, IfOk};
 ghost use Rattle.answers.specs.Answers.{answer_of};
 ghost use Rattle.model.specs.Words.{WordPromise, PlacePromise, SignPromise};
 ghost use Rattle.words.specs.Parts.{start_in, size_in};
-ghost use Rattle.words.specs.Signed.{signature_or_0};
 
 use answers::Refusal;
 use std::ops::Range;
@@ -36,10 +36,12 @@ pub fn word_place(text: &[u8], n: u32) -> Result<Range<usize>, Refusal>
     Ok(splitter::locate(text, n))
 }
 
-// The text's signature of the width, each word setting its first k different positions.
-pub fn sign(text: &[u8], width: u32, k: u32) -> Result<u64, Refusal>
-    ensures { SignPromise width k text.now (answer_of result) (signature_or_0 result) }
+// Fills the lent words, as many as the width has, with the text's signature, high word first: each word of the text sets its first k
+// different positions.
+pub fn sign(text: &[u8], width: u32, k: u32, signature: &mut [u64]) -> Result<(), Refusal>
+    ensures { SignPromise width k text.now signature.old (answer_of result) signature.new }
 {
-    let signer = question::signer(text, width, k)?;
-    Ok(signer.sign(text))
+    let signer = question::signer(text, width, k, signature.len())?;
+    signer.sign(text, signature);
+    Ok(())
 }

@@ -1,6 +1,7 @@
 -- `convert::close_nodes` meets its contract. The invariant: the nodes before node `node` are packed.
 -- Assumes nothing.
 use Rattle.std.proofs.Common.{arith, length}
+use Rattle.tables.specs.Rows.{numbers}
 use Rattle.convert.proofs.Closing.{close_turn, close_end, close_parts, close_stored}
 use Rattle.convert.proofs.close_nodes.Goals as goal
 
@@ -14,10 +15,10 @@ set_node-requires-clause-parts_fit c =
 pub loop-node-preserved : goal.loop-node-preserved
 loop-node-preserved c =
     let t = c.args.tables.now in
-    close_turn (length t.rows.signatures.now) t.rows.links.now c.args.nodes.now _ _ c.loop-node.node t.fits.blocks_from t.fits.links_long c.requires.length c.loop-node.auto.node (omega arith) c.loop-node.invariant
+    close_turn (length (numbers t.rows)) t.rows.links.now c.args.nodes.now _ _ c.loop-node.node t.fits.fits.blocks_from t.fits.fits.links_long c.requires.length c.loop-node.auto.node (omega arith) c.loop-node.invariant
     (close_stored (close_parts c.node.ensures) _ _ _ c.set_node.ensures)
 
 pub returns : goal.returns
 returns c =
     let t = c.args.tables.now in
-    close_end (length t.rows.signatures.now) t.rows.links.now c.args.nodes.now _ c.loop-node.node t.fits.blocks_from t.fits.links_long c.requires.length (omega arith) c.loop-node.invariant
+    close_end (length (numbers t.rows)) t.rows.links.now c.args.nodes.now _ c.loop-node.node t.fits.fits.blocks_from t.fits.fits.links_long c.requires.length (omega arith) c.loop-node.invariant

@@ -9,10 +9,10 @@ use Rattle.convert.proofs.unpack.Goals as goal
 pub returns-in_err-tables : goal.returns-in_err-tables
 returns-in_err-tables c =
     let n = number_some c.in_err-tables.field-0.0 in
-    refuses_tables _ _ _ _ (sym c.unpacked_lengths.ensures ∙ c.if-not-unpacked_lengths.false) _ (unfit_packed _ _ _ c.in_err-tables.was c.from_residual.ensures _ c.of.ensures.asked) (λ z. omega (arith, passed_on _ _ c.from_residual.ensures))
+    refuses_tables _ _ _ _ (sym c.unpack_fits.ensures ∙ c.if-not-unpack_fits.false) _ (unfit_packed _ _ _ c.in_err-tables.was c.from_residual.ensures _ c.of.ensures.asked) (λ z. omega (arith, passed_on _ _ c.from_residual.ensures))
 
 pub returns : goal.returns
 returns c =
     let t = c.in_ok-tables in
-    let e = sym c.unpacked_lengths.ensures ∙ c.if-not-unpacked_lengths.false in
+    let e = sym c.unpack_fits.ensures ∙ c.if-not-unpack_fits.false in
     unpacks _ _ _ _ e 0 (answered_packed t.ensures.read t.ensures.asked c.in_ok-sound.ensures) refl _ _ c.copy_from_slice.ensures.after c.open_nodes.ensures

@@ -8,11 +8,11 @@ use Rattle.runner.proofs.Same.{Same}
 use Rattle.runner.proofs.Turns.{Going}
 use Rattle.runner.proofs.drain.Given as goal
 
-abbrev pub invariant-loop-at : goal.invariant-loop-at
-invariant-loop-at g l =
+abbrev pub invariant-loop-tables : goal.invariant-loop-tables
+invariant-loop-tables g l =
     Going l.bytes (lent_in l.initial.tables l.initial.work) (lent_in l.tables l.work) l.at
     × (length l.text ≡ length l.initial.text)
     × Same l.initial.tables l.initial.work l.tables l.work
 
-abbrev pub decreases-loop-at : goal.decreases-loop-at
-decreases-loop-at g l = length l.bytes - l.at
+abbrev pub decreases-loop-tables : goal.decreases-loop-tables
+decreases-loop-tables g l = length l.bytes - l.at

@@ -1,4 +1,4 @@
--- `runner::last` meets its contract. No byte is left, or one slip.
+-- `runner::last` meets its contract. No byte is left, or a slip, which is short.
 -- Assumes nothing.
 use mathlib.Core.Path.{◌≡◌}
 use mathlib.Core.Logic.{◌≢◌}
@@ -15,4 +15,4 @@ returns-then-is_empty-clause-ended g c =
 pub returns-clause-ended : goal.returns-clause-ended
 returns-clause-ended g c =
     let e : length c.args.slip.now ≢ 0 = search rules in
-    ended_one _ _ _ _ _ _ e c.serve_one-used.ensures.served
+    ended_one _ _ _ _ _ _ e c.requires.short c.serve_one-used.ensures.served

@@ -5,6 +5,7 @@ use lib.ListN.{length-append}
 use native.Mathlib.Omega.{arith}
 use borrow.Author.Rules.{rules}
 use Rattle.sigtree.specs.Held.{lent_in}
+use Rattle.runner.proofs.Turns.{holds_on}
 use Rattle.runner.proofs.Taken.{whole_none, read_more, read_none}
 use Rattle.runner.proofs.Same.{same_none, same_more}
 use Rattle.runner.proofs.serve_whole.Goals as goal
@@ -16,6 +17,9 @@ pub returns-then-read-eq0-clause-whole : goal.returns-then-read-eq0-clause-whole
 returns-then-read-eq0-clause-whole g c =
     let inv = c.loop.invariant in
     read_none _ _ _ (lent_in c.args.tables.now c.args.work.now) _ _ _ _ _ _ inv.1 inv.0 c.fill-read.ensures.bytes c.if-read-eq0.true
+
+pub drain-from-requires-clause-index : goal.drain-from-requires-clause-index
+drain-from-requires-clause-index g c = holds_on _ _ _ _ c.requires.index c.loop.invariant.0.turns
 
 pub loop-preserved : goal.loop-preserved
 loop-preserved g c =

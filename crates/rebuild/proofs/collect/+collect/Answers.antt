@@ -7,6 +7,7 @@ use Rattle.model.specs.Packed.{unpacked}
 use Rattle.model.specs.Rebuild.{heads_from}
 use Rattle.std.proofs.Math.Seq.{length-take-le}
 use Rattle.std.proofs.lemmas.List.{length-drop}
+use Rattle.tables.specs.Rows.{numbers}
 use Rattle.rebuild.specs.Walkable.{Walkable}
 use Rattle.rebuild.proofs.Heads.{heads_from_none}
 use Rattle.rebuild.proofs.Collecting.{heads_leaf, walk_on, onward_count, onward_end}
@@ -16,27 +17,27 @@ pub returns-then-reference-eq0 : goal.returns-then-reference-eq0
 returns-then-reference-eq0 t c =
     let a = c.args in
     let t = a.tables.now in
-    let e = heads_from_none (length t.rows.signatures.now) (unpacked t.rows.links.now t.nodes.now) a.untested a.reference c.if-reference-eq0.true in
+    let e = heads_from_none (length (numbers t.rows)) (unpacked t.rows.links.now t.nodes.now) a.untested a.reference c.if-reference-eq0.true in
     record { within = omega (arith, c.requires.room, ap length e); count = sym (ap length e); list = ap (sets a.scratch.now 0) (sym e) }
 
 pub bounds-scratch-0 : goal.bounds-scratch-0
 bounds-scratch-0 t c =
     let a = c.args in
     let t = a.tables.now in
-    omega (arith, ap length (heads_leaf (length t.rows.signatures.now) (unpacked t.rows.links.now t.nodes.now) a.untested a.reference c.if-reference-eq0.false (omega arith)), c.requires.room)
+    omega (arith, ap length (heads_leaf (length (numbers t.rows)) (unpacked t.rows.links.now t.nodes.now) a.untested a.reference c.if-reference-eq0.false (omega arith)), c.requires.room)
 
 pub returns-then-at-blocks : goal.returns-then-at-blocks
 returns-then-at-blocks t c =
     let a = c.args in
     let t = a.tables.now in
-    let e = heads_leaf (length t.rows.signatures.now) (unpacked t.rows.links.now t.nodes.now) a.untested a.reference c.if-reference-eq0.false (omega arith) in
+    let e = heads_leaf (length (numbers t.rows)) (unpacked t.rows.links.now t.nodes.now) a.untested a.reference c.if-reference-eq0.false (omega arith) in
     record { within = omega (arith, c.requires.room, ap length e); count = sym (ap length e); list = ap (sets a.scratch.now 0) (sym e) }
 
 pub collect-found-requires : goal.collect-found-requires
 collect-found-requires t c =
     let a = c.args in
     let s = a.tables.now in
-    let B = length s.rows.signatures.now in
+    let B = length (numbers s.rows) in
     let U = unpacked s.rows.links.now s.nodes.now in
     let K = walk_on B U a.untested a.reference c.requires.walkable (omega arith) in
     let parts = rw c.blocks-blocks.ensures at c.node-left.ensures in
@@ -48,7 +49,7 @@ pub collect-requires : goal.collect-requires
 collect-requires t c =
     let a = c.args in
     let s = a.tables.now in
-    let B = length s.rows.signatures.now in
+    let B = length (numbers s.rows) in
     let U = unpacked s.rows.links.now s.nodes.now in
     let K = walk_on B U a.untested a.reference c.requires.walkable (omega arith) in
     let parts = rw c.blocks-blocks.ensures at c.node-left.ensures in
@@ -64,7 +65,7 @@ pub returns : goal.returns
 returns t c =
     let a = c.args in
     let s = a.tables.now in
-    let K = walk_on (length s.rows.signatures.now) (unpacked s.rows.links.now s.nodes.now) a.untested a.reference c.requires.walkable (omega arith) in
+    let K = walk_on (length (numbers s.rows)) (unpacked s.rows.links.now s.nodes.now) a.untested a.reference c.requires.walkable (omega arith) in
     let parts = rw c.blocks-blocks.ensures at c.node-left.ensures in
     let one = c.collect-found in
     let two = c.collect in

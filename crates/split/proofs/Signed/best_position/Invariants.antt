@@ -6,4 +6,4 @@ use Rattle.split.proofs.Best.{Trying}
 use Rattle.split.proofs.Signed.best_position.Given as goal
 
 abbrev pub invariant-loop-number : goal.invariant-loop-number
-invariant-loop-number l = Trying l.self.width (signature_of l.self.signatures.now) l.group l.number l.best.number l.size × (l.best.width ≡ l.self.width)
+invariant-loop-number g l = Trying l.self.width (signature_of (g.S.Signatures.numbers l.self.signatures)) l.group l.number l.best.number l.size × (l.best.width ≡ l.self.width)

@@ -18,29 +18,29 @@ is_block l k x n h e b = let z = get_or_default_zero l k x h in omega arith
 
 pub sum-requires-clause-can : goal.sum-requires-clause-can
 unfolding Blocks
-sum-requires-clause-can c =
+sum-requires-clause-can g c =
     let a = c.args in (
       tt,
       serves_from_places (YieldsList-from_slice a.group.now cc) (λ x q k. search rules)
-          (λ x k l e. let b : (1 ≤ x.now) × (x.now ≤ length a.self.now.signatures.now) = is_block a.group.now k x.now _ l e (c.requires k l) in search rules),
+          (λ x k l e. let b : (1 ≤ x.now) × (x.now ≤ length (g.S.Signatures.numbers a.self.now.signatures)) = is_block a.group.now k x.now _ l e (c.requires.blocks k l) in search rules),
     )
 
 pub sum-requires-clause-fits : goal.sum-requires-clause-fits
-sum-requires-clause-fits c =
+sum-requires-clause-fits g c =
     let s = c.args.self.now in
     let p = c.args.position in
-    let g = c.args.group.now in
-    let bit = λ (b : ℕ). bit_at p.width (signature_of s.signatures.now b) p.number in
-    fits_by_from_yields_list bit g c.map.result (2 ^ 64)
-    (YieldsList-from_map _ bit (YieldsList-at c.map.ensures.source (YieldsList-from_slice g cc)) c.map.ensures.closure (λ x r q k. search rules))
-    (omega (arith, ones_sum p.width (signature_of s.signatures.now) p.number g, keep_few (λ b. eqb (bit b) 1) g, c.iter.ensures.bound, c.iter.ensures.len))
+    let group = c.args.group.now in
+    let bit = λ (b : ℕ). bit_at p.width (signature_of (g.S.Signatures.numbers s.signatures) b) p.number in
+    fits_by_from_yields_list bit group c.map.result (2 ^ 64)
+    (YieldsList-from_map _ bit (YieldsList-at c.map.ensures.source (YieldsList-from_slice group cc)) c.map.ensures.closure (λ x r q k. search rules))
+    (omega (arith, ones_sum p.width (signature_of (g.S.Signatures.numbers s.signatures)) p.number group, keep_few (λ b. eqb (bit b) 1) group, c.iter.ensures.bound, c.iter.ensures.len))
 
 pub returns : goal.returns
-returns c =
+returns g c =
     let s = c.args.self.now in
     let p = c.args.position in
-    let g = c.args.group.now in
-    let bit = λ (b : ℕ). bit_at p.width (signature_of s.signatures.now b) p.number in
-    sum_by_from_yields_List bit g c.map.result _ c.sum.ensures.ran
-    (YieldsList-from_map _ bit (YieldsList-at c.map.ensures.source (YieldsList-from_slice g cc)) c.map.ensures.closure (λ x r q k. search rules))
-    ∙ sym (ones_sum p.width (signature_of s.signatures.now) p.number g)
+    let group = c.args.group.now in
+    let bit = λ (b : ℕ). bit_at p.width (signature_of (g.S.Signatures.numbers s.signatures) b) p.number in
+    sum_by_from_yields_List bit group c.map.result _ c.sum.ensures.ran
+    (YieldsList-from_map _ bit (YieldsList-at c.map.ensures.source (YieldsList-from_slice group cc)) c.map.ensures.closure (λ x r q k. search rules))
+    ∙ sym (ones_sum p.width (signature_of (g.S.Signatures.numbers s.signatures)) p.number group)

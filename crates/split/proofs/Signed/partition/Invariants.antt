@@ -6,7 +6,7 @@ use Rattle.split.proofs.Parting.{Parting}
 use Rattle.split.proofs.Signed.partition.Given as goal
 
 abbrev pub invariant-loop-low : goal.invariant-loop-low
-invariant-loop-low l = Parting l.position.width (signature_of l.self.signatures.now) l.position.number l.initial.group l.group l.low l.end
+invariant-loop-low g l = Parting l.position.width (signature_of (g.S.Signatures.numbers l.self.signatures)) l.position.number l.initial.group l.group l.low l.end
 
 abbrev pub decreases-loop-low : goal.decreases-loop-low
-decreases-loop-low l = l.end - l.low
+decreases-loop-low g l = l.end - l.low

@@ -7,12 +7,12 @@ use Rattle.model.proofs.Sides.{sides_length}
 use Rattle.split.proofs.Signed.smaller_side.Goals as goal
 
 pub overflow_sub-group : goal.overflow_sub-group
-overflow_sub-group c =
+overflow_sub-group g c =
     let a = c.args in
-    omega (arith, sides_length a.position.width (signature_of a.self.now.signatures.now) a.position.number a.group.now)
+    omega (arith, sides_length a.position.width (signature_of (g.S.Signatures.numbers a.self.now.signatures)) a.position.number a.group.now)
 
 pub returns : goal.returns
 unfolding smaller
-returns c =
+returns g c =
     let a = c.args in
-    omega (arith, sides_length a.position.width (signature_of a.self.now.signatures.now) a.position.number a.group.now)
+    omega (arith, sides_length a.position.width (signature_of (g.S.Signatures.numbers a.self.now.signatures)) a.position.number a.group.now)

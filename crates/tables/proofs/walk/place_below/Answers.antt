@@ -5,5 +5,5 @@ use Rattle.tables.proofs.Reached.{passed_below}
 use Rattle.tables.proofs.walk.place_below.Goals as goal
 
 pub returns-clause-address : goal.returns-clause-address
-returns-clause-address c B links P =
-    passed_below B c.args.width links _ P c.args.signature _ c.if-node-eq0.false _ _ c.word_of.ensures c.position_in.ensures _ (side_of_bit _ _ _ _ _ c.is_set.ensures c.into-side.ensures)
+returns-clause-address g c B links P =
+    passed_below B c.args.width links _ P (g.S.Positions.number c.args.signature) _ c.if-node-eq0.false _ _ c.word_of.ensures c.position_in.ensures _ (side_of_bit _ _ _ _ _ c.is_set.ensures c.into-side.ensures)

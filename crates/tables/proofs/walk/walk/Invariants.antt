@@ -5,4 +5,4 @@ use Rattle.tables.proofs.Reached.{Reached}
 use Rattle.tables.proofs.walk.walk.Given as goal
 
 abbrev pub invariant-loop : goal.invariant-loop
-invariant-loop l = Reached l.blocks l.width l.links l.nodes l.signature (l.width - l.counter) l.reference l.node l.above
+invariant-loop g l = Reached l.blocks l.width l.links l.nodes (g.S.Positions.number l.signature) (l.width - l.counter) l.reference l.node l.above

@@ -19,7 +19,7 @@ returns-then-first_free-ge-TOO_LARGE-clause-right c =
     ]
 
 pub returns-in_err-walked-clause-right : goal.returns-in_err-walked-clause-right
-returns-in_err-walked-clause-right c = rw c.from_residual.ensures (walk_lost _ _ _ c.requires _ _ c.signature_of-signature.ensures (front c.args.tables.now 0 (omega arith)) _ c.in_err-walked.ensures.ends)
+returns-in_err-walked-clause-right c = rw c.from_residual.ensures (walk_lost _ _ _ c.requires _ _ c.signature_of-signature.ensures.number (front c.args.tables.now 0 (omega arith)) _ c.in_err-walked.ensures.ends)
 
 pub plan_head-requires-clause-fits : goal.plan_head-requires-clause-fits
 plan_head-requires-clause-fits c =
@@ -28,7 +28,7 @@ plan_head-requires-clause-fits c =
     (omega (arith, c.count.ensures, front t 4 (omega arith)), omega (arith, c.first_free.ensures, front t 3 (omega arith), c.if-first_free-ge-TOO_LARGE.false), omega (arith, c.next_of.ensures, next t _ c.requires.to, c.if-next_of-ge-TOO_LARGE.false))
 
 pub returns-then-walked-block-clause-right : goal.returns-then-walked-block-clause-right
-returns-then-walked-block-clause-right c = plans_head _ _ _ c.requires _ _ c.signature_of-signature.ensures (front c.args.tables.now 0 (omega arith)) c.in_ok-walked.walked c.in_ok-walked.ensures.ends c.in_ok-walked.ensures.held _ c.if-walked-block.true (c.plan_head.ensures.right _ _ (c.in_ok-walked.ensures.taken (some_place _ c.in_ok-walked.walked.place)))
+returns-then-walked-block-clause-right c = plans_head _ _ _ c.requires _ _ c.signature_of-signature.ensures.number (front c.args.tables.now 0 (omega arith)) c.in_ok-walked.walked c.in_ok-walked.ensures.ends c.in_ok-walked.ensures.held _ c.if-walked-block.true (c.plan_head.ensures.right _ _ (c.in_ok-walked.ensures.taken (some_place _ c.in_ok-walked.walked.place)))
 
 pub plan_chain-requires : goal.plan_chain-requires
 plan_chain-requires c =
@@ -37,4 +37,4 @@ plan_chain-requires c =
     (c.requires.from, c.requires.to, omega (arith, c.count.ensures, front t 4 (omega arith)), omega (arith, c.next_of.ensures, next t _ c.requires.to, c.if-next_of-ge-TOO_LARGE.false))
 
 pub returns-clause-right : goal.returns-clause-right
-returns-clause-right c = plans_chain _ _ _ c.requires _ _ c.signature_of-signature.ensures (front c.args.tables.now 0 (omega arith)) c.in_ok-walked.walked c.in_ok-walked.ensures.ends c.in_ok-walked.ensures.held _ c.if-walked-block.false c.plan_chain.ensures.right
+returns-clause-right c = plans_chain _ _ _ c.requires _ _ c.signature_of-signature.ensures.number (front c.args.tables.now 0 (omega arith)) c.in_ok-walked.walked c.in_ok-walked.ensures.ends c.in_ok-walked.ensures.held _ c.if-walked-block.false c.plan_chain.ensures.right

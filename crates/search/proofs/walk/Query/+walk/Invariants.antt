@@ -4,4 +4,4 @@
 use Rattle.search.proofs.walk.Query.+walk.Given as goal
 
 abbrev pub decreases-walk : goal.decreases-walk
-decreases-walk l = l.untested
+decreases-walk g l = l.untested

@@ -3,20 +3,19 @@
 use mathlib.Core.Path.{sym, ◌∙◌}
 use native.Mathlib.Omega.{arith}
 use Rattle.search.proofs.Steps.{leaf_passed, leaf_chain}
-use Rattle.search.proofs.Returns.{covers_read}
 use Rattle.search.proofs.walk.Query.leaf.Goals as goal
 
-pub returns-then-not-covers-clause-gives : goal.returns-then-not-covers-clause-gives
-returns-then-not-covers-clause-gives c =
+pub returns-then-not-is_covered-clause-gives : goal.returns-then-not-is_covered-clause-gives
+returns-then-not-is_covered-clause-gives g c =
     let p = c.requires in
-    sym (leaf_passed _ _ _ _ _ _ (omega (arith, p.le_head.0)) (sym (covers_read _ _ _ _ _ c.args.self.now.low c.covers.ensures.0 c.signature_of-signature.ensures) ∙ c.if-not-covers.true))
+    sym (leaf_passed _ _ _ _ _ _ (omega (arith, p.le_head.0)) (sym c.is_covered.ensures ∙ c.if-not-is_covered.true))
 
 pub mark_leaf-requires-clause-le_head : goal.mark_leaf-requires-clause-le_head
-mark_leaf-requires-clause-le_head c =
+mark_leaf-requires-clause-le_head g c =
     let p = c.requires in
-    (p.le_head.0, p.le_head.1, sym (covers_read _ _ _ _ _ c.args.self.now.low c.covers.ensures.0 c.signature_of-signature.ensures) ∙ c.if-not-covers.false)
+    (p.le_head.0, p.le_head.1, sym c.is_covered.ensures ∙ c.if-not-is_covered.false)
 
 pub returns-clause-gives : goal.returns-clause-gives
-returns-clause-gives c =
+returns-clause-gives g c =
     let p = c.requires in
-    c.mark_leaf.ensures.gives ∙ sym (leaf_chain _ _ _ _ _ _ (omega (arith, p.le_head.0)) (sym (covers_read _ _ _ _ _ c.args.self.now.low c.covers.ensures.0 c.signature_of-signature.ensures) ∙ c.if-not-covers.false))
+    c.mark_leaf.ensures.gives ∙ sym (leaf_chain _ _ _ _ _ _ (omega (arith, p.le_head.0)) (sym c.is_covered.ensures ∙ c.if-not-is_covered.false))

@@ -9,21 +9,21 @@ use Rattle.search.proofs.walk.Query.mark_chain.Goals as goal
 use Rattle.search.proofs.walk.Query.mark_chain.Goals.{then-blocks-eq0-via-then-blocks-eq0, then-blocks-eq0-via-else-blocks-eq0+then-not-may_mark}
 
 pub returns-then-blocks-eq0-clause-gives : goal.returns-then-blocks-eq0-clause-gives
-returns-then-blocks-eq0-clause-gives c = rw c.unfit.ensures (sym (c.loop-block.invariant.same ∙ elim c.then-blocks-eq0.branch [
+returns-then-blocks-eq0-clause-gives g c = rw c.unfit.ensures (sym (c.loop-block.invariant.same ∙ elim c.then-blocks-eq0.branch [
   | then-blocks-eq0-via-then-blocks-eq0 w ↦ chain_spent _ _ _ _ _ _ _ _ c.loop-block-test.true (sym c.blocks-in-loop-block.ensures ∙ w.if-blocks-eq0.true)
   | then-blocks-eq0-via-else-blocks-eq0+then-not-may_mark w ↦ chain_stop _ _ _ _ _ _ _ _ c.loop-block-test.true (sym w.may_mark.ensures ∙ w.if-not-may_mark.true)
 ]))
 
 pub next_of-next-requires : goal.next_of-next-requires
-next_of-next-requires c =
+next_of-next-requires g c =
     let p = (may_matches _ _ _ _ _ (sym c.may_mark.ensures ∙ c.if-not-may_mark.false)).1 in (p.from, p.to)
 
 pub mark-requires : goal.mark-requires
-mark-requires c =
+mark-requires g c =
     let p = (may_matches _ _ _ _ _ (sym c.may_mark.ensures ∙ c.if-not-may_mark.false)).1 in (p.from, omega (arith, p.to, c.requires, c.loop-block.invariant.long))
 
 pub loop-block-preserved : goal.loop-block-preserved
-loop-block-preserved c =
+loop-block-preserved g c =
     let l = c.loop-block in
     let may = sym c.may_mark.ensures ∙ c.if-not-may_mark.false in
     record {
@@ -33,4 +33,4 @@ loop-block-preserved c =
     }
 
 pub returns-clause-gives : goal.returns-clause-gives
-returns-clause-gives c = sym (c.loop-block.invariant.same ∙ chain_end _ _ _ _ _ _ _ _ c.loop-block-test.false)
+returns-clause-gives g c = sym (c.loop-block.invariant.same ∙ chain_end _ _ _ _ _ _ _ _ c.loop-block-test.false)

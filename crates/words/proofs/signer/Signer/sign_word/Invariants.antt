@@ -7,4 +7,6 @@ use Rattle.words.proofs.Signing.{WordSigns}
 use Rattle.words.proofs.signer.Signer.sign_word.Given as goal
 
 abbrev pub invariant-loop-a : goal.invariant-loop-a
-invariant-loop-a l = (windows_size (array_windows_parts l.a-iterator) ≡ 3) × WordSigns l.self.width l.self.k l.word (windows_rest (array_windows_parts l.a-iterator)) l.own.bits l.own.count
+invariant-loop-a g l =
+    (windows_size (array_windows_parts l.a-iterator) ≡ 3)
+    × WordSigns l.self.width l.self.k l.bytes (windows_rest (array_windows_parts l.a-iterator)) (g.S.Own.number l.word.own) l.word.count
