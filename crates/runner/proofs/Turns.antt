@@ -1,6 +1,6 @@
 -- Slips in turn: one more, two runs joined, the bytes of the input in two parts, and what is left of them.
 -- Assumes nothing.
-use Prim.Native.Nat.{ℕ, ◌+◌, ◌-◌, ◌*◌, ◌≤◌, ◌<◌}
+use Prim.Native.Nat.{ℕ, ◌+◌, ◌-◌, ◌≤◌, ◌<◌}
 use native.Mathlib.Omega.{arith}
 use mathlib.Core.Path.{◌≡◌, sym, ◌∙◌, ap, subst}
 use mathlib.Core.Logic.{◌≢◌}
@@ -12,7 +12,7 @@ use Rattle.model.specs.PackedLists.{PackedMemory, PackedSlip}
 use Rattle.model.proofs.Packing.{fit_stays}
 use Rattle.lines.specs.Text.{Puts}
 use Rattle.sigtree.specs.Face.{lent}
-use Rattle.runner.specs.Served.{slip_size, lent_count, IsSlip, NoSlip, Serves, Served, InTurn, none, after, line_of, Batched, Drained, Ended, nothing, short, HoldsIndex}
+use Rattle.runner.specs.Served.{slip_size, lent_count, IsSlip, NoSlip, Serves, Served, InTurn, none, after, line_of, Batched, Ended, nothing, short, HoldsIndex}
 use Rattle.runner.proofs.Lengths.{size_some}
 
 -- what is put into a text stands after what it held
@@ -35,7 +35,7 @@ serves_by words links nodes scratch marks output slip o words' links' nodes' scr
 }
 
 -- one slip more
-pub one_more : (M M₁ M₂ : PackedMemory) (bytes slip text : List ℕ) (used next : ℕ) (text' : List ℕ)
+one_more : (M M₁ M₂ : PackedMemory) (bytes slip text : List ℕ) (used next : ℕ) (text' : List ℕ)
     → InTurn M bytes (take used text) M₁ → Served slip M₁ M₂ text used next text' → length slip ≡ slip_size M₁.links (get_or slip 0 0) → next ≤ length text
     → InTurn M (bytes ++ slip) (take next text') M₂
 one_more M M₁ M₂ bytes slip text used next text' r s whole fits =
@@ -97,9 +97,6 @@ going_more bytes M M₁ M₂ at more used text g b⁺ =
       text = g.text ++ take used text;
       turns = rw (take-add at more bytes) (joined M M₁ M₂ (take at bytes) (take more (drop at bytes)) g.text (take used text) g.turns b.turns);
     }
-
-pub going_done : (bytes : List ℕ) (M M' : PackedMemory) (at : ℕ) → Going bytes M M' at → NoSlip M'.links (take (length bytes - at) (drop at bytes)) → Drained bytes M M' at
-going_done bytes M M' at g n = record { inside = g.inside; text = g.text; turns = g.turns; all = subst (NoSlip M'.links) (the_rest bytes at) n }
 
 -- the bytes that are left at the end: none, or one slip
 pub ended_none : (left : List ℕ) (M : PackedMemory) → length left ≡ 0 → Ended M left M

@@ -1,8 +1,7 @@
 -- The questions of a search in order: question 4 first, of the tables and then of the query's words, then those of the query's number, the
 -- marks and the output; each no is the refusal where the questions before it passed.
 -- Assumes nothing.
-use Prim.Native.Nat.{ℕ, ◌^◌, ◌≤◌, ◌<◌}
-use native.Mathlib.Decide.{dec_lt}
+use Prim.Native.Nat.{ℕ, ◌*◌, ◌^◌, ◌≤◌, ◌<◌}
 use native.Mathlib.Omega.{arith}
 use mathlib.Core.Path.{◌≡◌, refl, sym, ◌∙◌, ap}
 use mathlib.Core.Logic.{◌≢◌}
@@ -10,7 +9,7 @@ use mathlib.Core.Bool.{Bool, true, false, ◌&&◌}
 use mathlib.Core.List.{List}
 use lib.Dec.{eqb, leb, ltb}
 use lib.ListN.{length, get_or}
-use borrow.Author.Tests.{lt-leb, le-leb, leb-true, ltb-true, lt-ltb, eqb-true, eq-eqb}
+use borrow.Author.Tests.{lt-leb, le-leb, leb-true, ltb-true, eqb-true}
 use Rattle.model.specs.Limits.{word_bits}
 use Rattle.model.specs.Wide.{word_count, number_in}
 use Rattle.model.specs.Tables.{width_of, blocks_of}
@@ -19,8 +18,7 @@ use Rattle.model.specs.Packed.{unpacked}
 use Rattle.model.specs.PackedPromises.{packed_fit}
 use Rattle.model.proofs.Asking.{both, ask_zero}
 use Rattle.model.proofs.Wide.{number_one}
-use Rattle.model.proofs.Packing.{row_word}
-use Rattle.model.proofs.Packing.{fit_packs}
+use Rattle.model.proofs.Packing.{fit_width}
 use Rattle.tables.proofs.Fits.{packed_no, packed_yes}
 
 pub ask_yes : (n : ℕ) (t : Bool) (later : ℕ) → t ≡ true → ask n t later ≡ later
@@ -78,16 +76,12 @@ module _ (links q : List ℕ) (z : 0 ≡ of_query links q 0) where
   query_low : number_in q < 2 ^ width_of links
   query_low = ltb-true _ _ (ask_zero 5 _ _ (ask_zero 3 _ _ (sym z)).1).0
 
-  -- one word, and many
-  pub one_query : length q ≡ 1 → (leb (width_of links) word_bits ≡ true) × (get_or q 0 0 < 2 ^ width_of links)
-  one_query e = (le-leb (width_of links) word_bits (omega (arith, query_long)), rw (number_one q e) at query_low)
+  -- which the code holds as they are, or one word by itself
+  pub many_query : (word_bits * length q ≡ word_bits * word_count (width_of links)) × (number_in q < 2 ^ width_of links)
+  many_query = (ap (λ (n : ℕ). word_bits * n) query_long, query_low)
 
-  pub many_query : 1 ≤ width_of links → length q ≢ 1 → ((ltb word_bits (width_of links) && eqb (length q) (word_count (width_of links))) ≡ true) × (number_in q < 2 ^ width_of links)
-  many_query from n =
-      let long = query_long in
-      let F : ℕ = width_of links in
-      let w : word_bits < F = elim (dec_lt word_bits F) [ yes h ↦ h | no h ↦ absurd (n (omega arith)) ] in
-      (rw (lt-ltb word_bits F w, eq-eqb (length q) (word_count F) long), query_low)
+  pub one_query : length q ≡ 1 → (word_bits ≡ word_bits * word_count (width_of links)) × (get_or q 0 0 < 2 ^ width_of links)
+  one_query e = (omega (arith, query_long), rw (number_one q e) at query_low)
 
 module _ (words links nodes q : List ℕ) (marks output : ℕ) where
   abbrev U : List ℕ
@@ -116,6 +110,4 @@ module _ (words links nodes q : List ℕ) (marks output : ℕ) where
   number_later z =
       let y = (ask_zero 3 fit 0 (sym z)).0 in
       let b = both {t = packed_fit links nodes} y in
-      let l = (fit_packs links nodes b.0).rows_long in
-      let w : width_of U ≡ width_of links = row_word links nodes 0 (omega arith) in
-      sym (packed_yes _ (tables_fit A) _ y ∙ rw (b.1, w))
+      sym (packed_yes _ (tables_fit A) _ y ∙ rw (b.1, fit_width links nodes b.0))

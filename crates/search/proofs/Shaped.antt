@@ -1,8 +1,7 @@
 -- The walk of a shape that the tables spell: it marks the blocks of the leaves that it compares and that cover the query, and it uses
 -- up the plain tree's nodes and forks. By induction on the shape; each node hands its budget to one side and on to the other.
 -- Assumes nothing.
-use Prim.Native.Nat.{ℕ, ◌+◌, ◌-◌, ◌%◌, ◌≤◌, ◌<◌}
-use native.Mathlib.Decide.{dec_le}
+use Prim.Native.Nat.{ℕ, ◌+◌, ◌-◌, ◌/◌, ◌%◌, ◌^◌, ◌≤◌, ◌<◌}
 use native.Mathlib.Omega.{arith}
 use mathlib.Core.Path.{◌≡◌, refl, sym, ◌∙◌, ap, subst}
 use mathlib.Core.Logic.{◌⊎◌, inl, inr, ⊎_elim}
@@ -11,9 +10,9 @@ use mathlib.Core.List.Memᴰ
 use mathlib.Core.List.{List, [], ◌∷◌, ◌++◌, Memᴰ}
 use lib.Dec.{eqb}
 use lib.ListN.{length, length-append}
-use borrow.Author.Tests.{eq-eqb, ne_eqb, le-ltb, le-leb, lt-leb}
+use borrow.Author.Tests.{eq-eqb, ne_eqb, le-ltb}
 use Rattle.model.specs.Basics.{pick}
-use Rattle.model.specs.Limits.{widest, word_bits}
+use Rattle.model.specs.Limits.{widest}
 use Rattle.model.specs.Signature.{bit_at, coversb}
 use Rattle.model.specs.Tree.{goes_left, Edge, edge, compared, nodes_read}
 use Rattle.model.specs.Tables.{width_of, next_of, filed_of, left_of, right_of, signature_of}
@@ -22,7 +21,7 @@ use Rattle.model.proofs.Bits.{bit_cases}
 use Rattle.tables.proofs.Trees.{depth, shape_tree}
 use Rattle.search.specs.Budget.{Budget, fork_less}
 use Rattle.search.specs.Marks.{is_marked, mark}
-use Rattle.search.specs.Search.{may_mark, chain_twin, leaf_twin, from_right, side_at, is_leaf, in_turn, node_twin, walk_twin}
+use Rattle.search.specs.Search.{may_mark, chain_twin, leaf_twin, read_at, side_at, is_leaf, in_turn, node_twin, walk_twin}
 use Rattle.search.proofs.Leaves.{block_leaf, above_leaf}
 use Rattle.search.proofs.Steps.{chain_end, chain_mark, leaf_passed, leaf_chain, walk_leaf, walk_node, node_right, node_both}
 
@@ -140,14 +139,7 @@ may_mark_is sigs links q b m low high f e z =
 -- the side of a query at a position of the width is its bit there
 side_bit : (F q p : ℕ) → 1 ≤ p → p ≤ F → F ≤ widest → side_at F q p ≡ bit_at F q p
 unfolding side_at
-side_bit F q p low high wide = go (dec_le F word_bits)
-  where
-    k : from_right F p ≡ F - p
-    k = omega arith
-
-    go : Dec (F ≤ word_bits) → side_at F q p ≡ bit_at F q p
-    go (yes h) = let e : (F - p) % word_bits ≡ F - p = omega arith in simp (le-leb F word_bits h, k) (rw e)
-    go (no n) = let h : word_bits < F = omega arith in simp (lt-leb F word_bits h, k)
+side_bit F q p low high wide = let e : read_at F p ≡ F - p = omega arith in ap (λ (k : ℕ). q / 2 ^ k % 2) e
 
 -- a reference that a shape stands at is a leaf where the shape is one
 leaf_tip : (B : ℕ) (L : List ℕ) (r : ℕ) (t : Shape) → Holds B L r t → is_leaf B r ≡ is_tip t

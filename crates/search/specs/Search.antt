@@ -1,9 +1,10 @@
 -- The walk of a search as a function of the tables' lists, and what it leaves: what the code does on any tables, step for step.
 -- A search is lent as many nodes, forks and blocks as sound tables can need. It counts them down, and stops where they run out.
 -- Assumes nothing.
-use Rattle.std.specs.Prelude.{ℕ, zero, suc, ◌+◌, ◌-◌, ◌/◌, ◌%◌, ◌^◌, Bool, true, false, List, eqb, leb, ltb, length, get_or}
+use Rattle.std.specs.Prelude.{ℕ, zero, suc, ◌+◌, ◌-◌, ◌*◌, ◌/◌, ◌%◌, ◌^◌, min, Bool, true, false, List, eqb, leb, ltb, length, get_or}
 use Rattle.model.specs.Basics.{pick}
 use Rattle.model.specs.Limits.{word_bits}
+use Rattle.model.specs.Wide.{word_count}
 use Rattle.model.specs.Signature.{coversb}
 use Rattle.model.specs.Tables.{width_of, root_of, next_of, filed_of, position_of, left_of, right_of, signature_of}
 use Rattle.model.specs.Packed.{position_in, left_in, right_in}
@@ -42,10 +43,14 @@ leaf_twin sigs links q r l m =
 abbrev pub from_right : ℕ → ℕ → ℕ
 from_right F p = (F + (2 ^ 32 - p)) % 2 ^ 32
 
--- The side of a query at a node that tests position p: its bit there. A position that is none of 1 to F, on unsound tables, is not refused,
--- since the walk ends without that: it gives some bit of a query of one word, and 0 of a longer one.
+-- and where it is read: there, or in the high word where that is beyond all words
+abbrev pub read_at : ℕ → ℕ → ℕ
+read_at F p = word_bits * min (from_right F p / word_bits) (word_count F - 1) + from_right F p % word_bits
+
+-- The side of a query at a node that tests position p: its bit there. A position that is none of 1 to F, on unsound tables, gives some bit:
+-- no position is refused, since the walk ends without that.
 unfoldable pub side_at : ℕ → ℕ → ℕ → ℕ
-side_at F q p = q / 2 ^ pick (leb F word_bits) (from_right F p % word_bits) (from_right F p) % 2
+side_at F q p = q / 2 ^ read_at F p % 2
 
 -- the index of a leaf's signature; reference 0, which is none, gets one that no slice has
 abbrev pub index_of : ℕ → ℕ

@@ -87,7 +87,7 @@ fn find<Q: Sought>(
 }
 
 // Lists the filed blocks whose signatures cover the query. The slices come one by one, as C lends them; those of the tables are `Tables`
-// once question 4 says yes.
+// once question 4 says yes. A query of one word is handed on by itself: it stays in a register.
 pub fn search(
     signatures: &[u64],
     links: &[u32],

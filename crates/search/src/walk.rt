@@ -1,6 +1,8 @@
 // The walk of a search: from a reference down, right only where the query has a 1. It is safe on any tables that fit, and ends on them:
 // untested positions and nodes left fall at each call, blocks left at each block of a chain.
-ghost use Rattle.std.specs.Prelude.{◌≡◌, true, false, ◌^◌, ◌≤◌, ◌<◌, eqb, length};
+ghost use Rattle.std.specs.Prelude.{◌≡◌, true, false, ◌*◌, ◌^◌, ◌≤◌, ◌<◌, eqb, length};
+ghost use Rattle.model.specs.Limits.{word_bits};
+ghost use Rattle.model.specs.Wide.{word_count};
 ghost use Rattle.model.specs.Signature.{coversb};
 ghost use Rattle.model.specs.Tables.{width_of, root_of, signature_of};
 ghost use Rattle.model.specs.Packed.{position_in};
@@ -21,7 +23,7 @@ pub struct Query<'a, Q: Sought> {
     pub bits: Q,
     pub width: u32,
     pub ghost width_read: { width ≡ width_of tables.rows.links.now },
-    pub ghost wide: { Q.has_width bits (width_of tables.rows.links.now) ≡ true },
+    pub ghost wide: { Q.places bits ≡ word_bits * word_count (width_of tables.rows.links.now) },
     pub ghost low: { Q.number bits < 2 ^ width_of tables.rows.links.now },
 }
 
@@ -38,7 +40,7 @@ impl<'a, Q: Sought> Query<'a, Q> {
 
     // The query of bits that fit.
     pub fn of(tables: Tables<'a>, bits: Q) -> Query<'a, Q>
-        requires { (Q.has_width bits (width_of tables.rows.links.now) ≡ true) × (Q.number bits < 2 ^ width_of tables.rows.links.now) }
+        requires { (Q.places bits ≡ word_bits * word_count (width_of tables.rows.links.now)) × (Q.number bits < 2 ^ width_of tables.rows.links.now) }
         ensures { (result.tables ≡ tables.entry) × (result.bits ≡ bits) }
     {
         Query {
@@ -98,7 +100,9 @@ impl<'a, Q: Sought> Query<'a, Q> {
         self.mark_chain(marks, next, left.take_block())
     }
 
-    // A leaf of the tables is one compare; its chain is marked where its signature covers the query.
+    // A leaf of the tables is one compare; its chain is marked where its signature covers the query. It is inlined for speed: for many words
+    // it would stay a call, and a search would take up to a fifth longer.
+    #[inline(always)]
     fn leaf(&self, marks: &mut Marks, head: u32, left: Budget) -> Budget
         requires room { blocks_held self.now.tables ≤ length marks.old.bytes.now }
         requires le_head { (1 ≤ head) × (head ≤ blocks_held self.now.tables) }

@@ -1,9 +1,8 @@
 -- `runner::drain` meets its contract: no slip at the start, and one batch more after each turn, until no whole slip is left.
 -- Assumes nothing.
 use mathlib.Core.Path.{refl}
-use native.Mathlib.Omega.{arith}
 use borrow.Author.Rules.{rules}
-use Rattle.runner.proofs.Turns.{going_none, going_more, going_done, holds_on}
+use Rattle.runner.proofs.Turns.{going_none, going_more, holds_on}
 use Rattle.runner.proofs.Same.{same_none, same_more}
 use Rattle.runner.proofs.drain.Goals as goal
 

@@ -44,7 +44,7 @@ returns-then-query-eq1-clause-promise c =
 
 pub of-requires-2 : goal.of-requires-2
 of-requires-2 c =
-    many_query c.in_ok-tables.tables.rows.links.now _ c.in_ok-query_fits.ensures c.in_ok-tables.tables.rows.fit.rows.width_from c.if-query-eq1.false
+    many_query c.in_ok-tables.tables.rows.links.now _ c.in_ok-query_fits.ensures
 
 pub find-requires-2 : goal.find-requires-2
 find-requires-2 c =

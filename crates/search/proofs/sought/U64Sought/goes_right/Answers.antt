@@ -4,4 +4,4 @@ use Rattle.search.proofs.Words.{one_side}
 use Rattle.search.proofs.sought.U64Sought.goes_right.Goals as goal
 
 pub returns : goal.returns
-returns c = one_side c.args.width c.args.self c.args.position c.requires
+returns c = one_side c.args.width c.args.self c.args.position c.requires.1
