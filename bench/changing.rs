@@ -42,7 +42,7 @@ fn change(x: &mut Store, change: Change, by: By, some: Range<usize>, signatures:
     }
 }
 
-/// Times a store's calls beside those of `by`. The result is the ratio of each.
+/// Times a store's calls beside those of `by`, all in the same memory, and asserts that both leave the same. The result is the ratio of each.
 pub fn changes(name: &str, width: u32, signatures: &[u64], by: By) -> [f64; 3] {
     let filed = Store::filed(width, signatures);
     let n = filed.blocks();
@@ -55,15 +55,19 @@ pub fn changes(name: &str, width: u32, signatures: &[u64], by: By) -> [f64; 3] {
         ("rebuild, with its audit", Change::Rebuild, &filed, 1, 0),
     ];
     let ratios = calls.map(|(call, kind, from, parts, digits)| {
-        let mut left = [from.clone(), from.clone()];
+        let mut x = from.clone();
+        let mut left: Option<Store> = None;
         let [ours, by_hand] = least(turns_of(kind, n, width), parts, |side, part| {
             if part == 0 {
-                left[side].clone_from(from);
+                x.clone_from(from);
             }
             let some = n * part / parts..n * (part + 1) / parts;
-            timed(|| change(&mut left[side], kind, [By::Library, by][side], some, signatures, &mut scratch))
+            let time = timed(|| change(&mut x, kind, [By::Library, by][side], some, signatures, &mut scratch));
+            if part + 1 == parts {
+                assert!(*left.get_or_insert_with(|| x.clone()) == x);
+            }
+            time
         });
-        assert!(left[0] == left[1]);
         let calls = if parts == 1 { 1 } else { n };
         println!("| {name} | {call} | {:.digits$} | {:.2} |", ours / calls as f64 / 1000.0, ours / by_hand);
         ours / by_hand
@@ -76,7 +80,7 @@ pub fn changes(name: &str, width: u32, signatures: &[u64], by: By) -> [f64; 3] {
 /// A rebuild reads each signature once for each position.
 fn turns_of(change: Change, blocks: usize, width: u32) -> usize {
     match change {
-        Change::Rebuild => turns(blocks).div_ceil(words_of(width)),
+        Change::Rebuild => (turns(blocks) / words_of(width)).max(3),
         _ => turns(blocks),
     }
 }
