@@ -1,23 +1,20 @@
 -- The questions of a search in order: question 4 first, of the tables and then of the query's words, then those of the query's number, the
 -- marks and the output; each no is the refusal where the questions before it passed.
 -- Assumes nothing.
-use Prim.Native.Nat.{ℕ, ◌*◌, ◌^◌, ◌≤◌, ◌<◌}
-use native.Mathlib.Omega.{arith}
+use Prim.Native.Nat.{ℕ, ◌^◌, ◌≤◌, ◌<◌}
 use mathlib.Core.Path.{◌≡◌, refl, sym, ◌∙◌, ap}
 use mathlib.Core.Logic.{◌≢◌}
 use mathlib.Core.Bool.{Bool, true, false, ◌&&◌}
 use mathlib.Core.List.{List}
 use lib.Dec.{eqb, leb, ltb}
-use lib.ListN.{length, get_or}
+use lib.ListN.{length}
 use borrow.Author.Tests.{lt-leb, le-leb, leb-true, ltb-true, eqb-true}
-use Rattle.model.specs.Limits.{word_bits}
 use Rattle.model.specs.Wide.{word_count, number_in}
 use Rattle.model.specs.Tables.{width_of, blocks_of}
 use Rattle.model.specs.Questions.{Asked, ask, tables_fit, asks_tables, search_refusal}
 use Rattle.model.specs.Packed.{unpacked}
 use Rattle.model.specs.PackedPromises.{packed_fit}
 use Rattle.model.proofs.Asking.{both, ask_zero}
-use Rattle.model.proofs.Wide.{number_one}
 use Rattle.model.proofs.Packing.{fit_width}
 use Rattle.tables.proofs.Fits.{packed_no, packed_yes}
 
@@ -69,19 +66,10 @@ query_yes links q rest z =
     sym (ask_yes 4 _ _ l.0 ∙ ask_yes 6 _ _ n.0)
 
 -- what a yes to both says of the query: it has the words of the width, and the number fits
-module _ (links q : List ℕ) (z : 0 ≡ of_query links q 0) where
-  query_long : length q ≡ word_count (width_of links)
-  query_long = eqb-true _ _ (ask_zero 3 _ _ (sym z)).0
-
-  query_low : number_in q < 2 ^ width_of links
-  query_low = ltb-true _ _ (ask_zero 5 _ _ (ask_zero 3 _ _ (sym z)).1).0
-
-  -- which the code holds as they are, or one word by itself
-  pub many_query : (word_bits * length q ≡ word_bits * word_count (width_of links)) × (number_in q < 2 ^ width_of links)
-  many_query = (ap (λ (n : ℕ). word_bits * n) query_long, query_low)
-
-  pub one_query : length q ≡ 1 → (word_bits ≡ word_bits * word_count (width_of links)) × (get_or q 0 0 < 2 ^ width_of links)
-  one_query e = (omega (arith, query_long), rw (number_one q e) at query_low)
+pub query_passed : (links q : List ℕ) → 0 ≡ of_query links q 0 → (length q ≡ word_count (width_of links)) × (number_in q < 2 ^ width_of links)
+query_passed links q z =
+    let l = ask_zero 3 _ _ (sym z) in
+    (eqb-true _ _ l.0, ltb-true _ _ (ask_zero 5 _ _ l.1).0)
 
 module _ (words links nodes q : List ℕ) (marks output : ℕ) where
   abbrev U : List ℕ

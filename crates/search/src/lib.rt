@@ -7,19 +7,22 @@ mod marking;
 mod sought;
 mod walk;
 
-ghost use Rattle.std.specs.Prelude.{◌≡◌, ◌-◌, ◌^◌, ◌≤◌, length, eqb, leb, ltb, IfOk};
+ghost use Rattle.std.specs.Prelude.{◌≡◌, ◌-◌, ◌^◌, ◌≤◌, ◌<◌, length, eqb, leb, ltb, IfOk};
 ghost use Rattle.answers.specs.Answers.{answer_of, report_of};
 ghost use Rattle.model.specs.Questions.{ask};
 ghost use Rattle.model.specs.Wide.{word_count, number_in};
-ghost use Rattle.model.specs.Tables.{width_of};
+ghost use Rattle.model.specs.Tables.{width_of, root_of};
 ghost use Rattle.tables.specs.Held.{signatures_held, blocks_held, held};
 ghost use Rattle.model.specs.PackedPromises.{PackedSearch};
+ghost use Rattle.search.specs.Budget.{Forking};
+ghost use Rattle.search.specs.Marks.{SameLoan};
+ghost use Rattle.search.specs.Queries.{walk_in};
 ghost use Rattle.search.specs.Search.{found_twin};
 
 use answers::{Counts, Refusal};
 use budget::Budget;
 use marking::Marks;
-use sought::Sought;
+use signature::Wanted;
 use tables::{Rows, Tables};
 use walk::Query;
 
@@ -57,23 +60,39 @@ fn used(blocks: usize, left: u64) -> u32
     (blocks as u64 - left) as u32
 }
 
+// Walks the tree of the tables by a query that fits. One word is handed on by itself: it stays in a register.
+fn walk_by(tables: &Tables, query: &[u64], marks: &mut Marks, left: Budget) -> Budget
+    requires query { (length query.now ≡ word_count (width_of tables.now.rows.links.now)) × (number_in query.now < 2 ^ width_of tables.now.rows.links.now) }
+    requires room { blocks_held tables.now ≤ length marks.old.bytes.now }
+    requires rooted { (1 ≤ root_of tables.now.rows.links.now) × Forking left }
+    ensures loan { SameLoan marks.new.bytes marks.old.bytes }
+    ensures gives { (result, marks.new.bytes.now) ≡ walk_in tables.now (number_in query.now) left marks.old.bytes.now }
+{
+    if query.len() == 1 {
+        return Query::of(*tables, query[0]).walk_tree(marks, left);
+    }
+    Query::of(*tables, Wanted::of(query)).walk_tree(marks, left)
+}
+
 // A search that no question refuses.
-fn find<Q: Sought>(
-    query: &Query<'_, Q>,
+fn find(
+    tables: &Tables,
+    query: &[u64],
     marks: &mut [u8],
     output: &mut [u32],
 ) -> Result<Counts, Refusal>
-    requires { (blocks_held query.now.tables ≤ length marks.old) × (blocks_held query.now.tables ≤ length output.old) }
-    ensures gives { (report_of result, marks.new, output.new) ≡ found_twin (signatures_held query.now.tables) (held query.now.tables) (Q.number query.now.bits) marks.old output.old }
+    requires query { (length query.now ≡ word_count (width_of tables.now.rows.links.now)) × (number_in query.now < 2 ^ width_of tables.now.rows.links.now) }
+    requires room { (blocks_held tables.now ≤ length marks.old) × (blocks_held tables.now ≤ length output.old) }
+    ensures gives { (report_of result, marks.new, output.new) ≡ found_twin (signatures_held tables.now) (held tables.now) (number_in query.now) marks.old output.old }
     ensures found { IfOk result (λ c. c.found ≤ length output.new) }
 {
-    let rows = &query.tables.rows;
+    let rows = &tables.rows;
     let blocks = rows.blocks();
     let mut marks = Marks::none(marks, blocks);
     if rows.root() == 0 {
         return Ok(Counts::default());
     }
-    let left = query.walk_tree(&mut marks, Budget::lend(blocks));
+    let left = walk_by(tables, query, &mut marks, Budget::lend(blocks));
     if left.forks() == 0 {
         return Err(Refusal::Unsound);
     }
@@ -87,7 +106,7 @@ fn find<Q: Sought>(
 }
 
 // Lists the filed blocks whose signatures cover the query. The slices come one by one, as C lends them; those of the tables are `Tables`
-// once question 4 says yes. A query of one word is handed on by itself: it stays in a register.
+// once question 4 says yes.
 pub fn search(
     signatures: &[u64],
     links: &[u32],
@@ -102,8 +121,5 @@ pub fn search(
     let tables = Tables::of(signatures, links, nodes)?;
     query_fits(&tables.rows, query)?;
     buffers_fit(tables.rows.blocks(), marks.len(), output.len())?;
-    if query.len() == 1 {
-        return find(&Query::of(tables, query[0]), marks, output);
-    }
-    find(&Query::of(tables, query), marks, output)
+    find(&tables, query, marks, output)
 }

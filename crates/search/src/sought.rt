@@ -1,5 +1,5 @@
-// A query as the walk holds it: one word by itself, which stays in a register, or the words as they are lent. The walk is written once,
-// over this, and compiled for both.
+// A query as the walk holds it: one word by itself, which stays in a register, or the words that are lent. The walk is written once, over
+// this, and compiled for both.
 ghost use Rattle.std.specs.Prelude.{◌≡◌, ◌*◌, ◌^◌, ◌≤◌, ◌<◌, eqb, length};
 ghost use Rattle.model.specs.Limits.{word_bits};
 ghost use Rattle.model.specs.Wide.{word_count};
@@ -8,7 +8,7 @@ ghost use Rattle.model.specs.Tables.{width_of, signature_of};
 ghost use Rattle.tables.specs.Rows.{numbers};
 ghost use Rattle.search.specs.Search.{side_at};
 
-use signature::Positions;
+use signature::{Positions, Wanted};
 use tables::Rows;
 
 // What the walk asks of it.
@@ -35,14 +35,15 @@ impl Sought for u64 {
     }
 }
 
-impl<'a> Sought for &'a [u64] {
+impl<'a> Sought for Wanted<'a> {
     fn goes_right(self, width: u32, position: u32) -> bool {
         let from_right = width.wrapping_sub(position);
         let passed = (from_right / u64::BITS) as usize;
-        (self[(self.len() - 1).saturating_sub(passed)] >> (from_right % u64::BITS)) & 1 == 1
+        let word = self.words[(self.words.len() - 1).saturating_sub(passed)];
+        (word >> (from_right % u64::BITS)) & 1 == 1
     }
 
     fn is_covered(self, rows: &Rows, block: usize) -> bool {
-        signature::covers(rows.signature_of(block), self)
+        self.is_covered_by(rows.signature_of(block))
     }
 }

@@ -6,13 +6,13 @@ use mathlib.Core.Bool.{Bool, true, false, ◌&&◌}
 use mathlib.Core.Logic.{◌≢◌}
 use mathlib.Core.List.{List, [], ◌∷◌}
 use Prim.Native.Nat.{ℕ, zero, suc, ◌+◌, ◌-◌, ◌*◌, ◌/◌, ◌%◌, ◌^◌, ◌≤◌, ◌<◌}
-use native.Mathlib.Nat.{zero-mul, suc-mul, pow-suc, mul_assoc, mul_comm, mul-add-div_right, mul-le-mul_right}
+use native.Mathlib.Nat.{add-zero, zero-mul, suc-mul, pow-suc, mul_assoc, mul_comm, mul-add-div_right, mul-le-mul_right}
 use native.Mathlib.Decide.{dec_lt, ℕ_discrete}
 use native.Mathlib.Omega.{arith}
 use lib.Dec.{eqb, ltb}
 use lib.ListN.{length, get_or, set, drop, replicate, drop_of_length-le, length-set, length-replicate, get_or-replicate}
 use lib.Pow.{pow_pos, pow-add, pow-lt, high, low, shr-shr}
-use lib.Bits.{bit_and, bit_or, and_block, and_lt, or_block, or_zero_r}
+use lib.Bits.{bit_and, bit_or, and_block, and_lt, and_zero_r, or_block, or_zero_r}
 use lib.Seq.{drop-cons}
 use borrow.Author.Tests.{eq-eqb, ne_eqb, lt-ltb, le-ltb}
 use Rattle.model.specs.Limits.{word_bits}
@@ -129,6 +129,12 @@ module _ (test : ℕ → ℕ → Bool) (xs ys : List ℕ) (long : length xs ≡ 
   unfolding each_word
   each_end i h f = sym f ∙ ap (λ (l : List ℕ). each_word test l (drop i ys)) (drop_of_length-le xs {i = i} (omega arith))
 
+  -- words that pass are passed over
+  pub each_over : (n i k : ℕ) → i + n ≡ k → k ≤ length ys → From test xs ys i → ((j : ℕ) → i ≤ j → j < k → test (get_or xs j 0) (get_or ys j 0) ≡ true) → From test xs ys k
+  each_over zero i k e h f p = rw (sym e ∙ add-zero i) f
+  each_over (suc n) i k e h f p =
+      each_over n (suc i) k (omega arith) h (each_yes i (omega arith) f (p i (omega arith) (omega arith))) (λ j l. p j (omega arith))
+
 -- ---- a mask over a signature, word by word
 
 unfoldable pub and_words : List ℕ → List ℕ → List ℕ
@@ -185,6 +191,10 @@ each_covers xs ys e ha hb =
     ap (λ (n : ℕ). eqb n (number_in ys)) (sym (and_number xs ys e ha hb))
     ∙ each_same (and_words xs ys) ys (and_length xs ys e) (and_words_is xs ys e ha hb) hb
     ∙ each_common xs ys
+
+-- a word that is 0 is covered by every word
+pub zero_covered : (a b : ℕ) → b ≡ 0 → covers_word a b ≡ true
+zero_covered a b e = eq-eqb (bit_and a b) b (ap (bit_and a) e ∙ and_zero_r a ∙ sym e)
 
 -- ---- no position set: the words are all 0
 

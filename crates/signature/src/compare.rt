@@ -5,23 +5,7 @@ ghost use Rattle.std.specs.Int.Bits.{bit_and};
 ghost use Rattle.model.specs.Wide.{number_in};
 ghost use Rattle.model.specs.Signature.{coversb};
 
-// Whether every position set in the query is set in the signature.
-pub fn covers(signature: &[u64], query: &[u64]) -> bool
-    requires { (1 ≤ length query.now) × (length signature.now ≡ length query.now) }
-    ensures { (F : ℕ) → number_in query.now < 2 ^ F → result ≡ coversb F (number_in signature.now) (number_in query.now) }
-{
-    if signature[0] & query[0] != query[0] {
-        return false;
-    }
-    for i in 1..query.len() {
-        if signature[i] & query[i] != query[i] {
-            return false;
-        }
-    }
-    true
-}
-
-// The same of signatures of one word, which stays in a register.
+// Whether every position set in a query of one word is set in the signature.
 pub fn word_covers(signature: u64, query: u64) -> bool
     ensures { (F : ℕ) → query < 2 ^ F → result ≡ coversb F signature query }
 {

@@ -5,6 +5,7 @@
 mod compare;
 mod position;
 mod positions;
+mod wanted;
 
 ghost use Rattle.std.specs.Prelude.{◌≡◌, ◌^◌, ◌≤◌, ◌<◌, ltb, length};
 ghost use Rattle.model.specs.Limits.{widest};
@@ -12,9 +13,10 @@ ghost use Rattle.model.specs.Wide.{word_count, number_in};
 ghost use Rattle.model.specs.Signature.{first_difference};
 ghost use Rattle.model.specs.Questions.{width_fits};
 
-pub use compare::{agrees, covers, is_zero, same, word_covers};
+pub use compare::{agrees, is_zero, same, word_covers};
 pub use position::Position;
 pub use positions::Positions;
+pub use wanted::Wanted;
 
 // the widest width
 pub const WIDEST: u32 = 512;

@@ -3,7 +3,7 @@
 
 ghost use Rattle.std.specs.Prelude.{◌≤◌, ◌<◌};
 
-use signature::MOST_WORDS;
+use signature::{MOST_WORDS, Wanted};
 use std::io;
 
 // room for one word more than the widest signature has
@@ -108,8 +108,8 @@ fn covered(rt: &impl Print, width: u32, lent: usize) -> io::Result<()>
     let block = show(rt, b"the quick brown fox\njumps", width, 3, lent)?;
     let query = show(rt, b"fox the", width, 3, lent)?;
     let other = show(rt, b"lazy dog", width, 3, lent)?;
-    let same = u8::from(signature::covers(&block[..lent], &query[..lent]));
-    let another = u8::from(signature::covers(&block[..lent], &other[..lent]));
+    let same = u8::from(Wanted::of(&query[..lent]).is_covered_by(&block[..lent]));
+    let another = u8::from(Wanted::of(&other[..lent]).is_covered_by(&block[..lent]));
     println!(rt; "covers {same} {another}")
 }
 
