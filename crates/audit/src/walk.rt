@@ -27,7 +27,8 @@ pub struct Path {
 }
 
 // A leaf: its signature agrees with every edge on the path, and its chain is fit. What is left of that lent. (The head has its own
-// signature, so that of it the chain asks only whether it is filed.)
+// signature, so that of it the chain asks only whether it is filed.) Inlined, so that what is left of that lent stays in registers.
+#[inline(always)]
 #[tactic(auto, unfolding(crate::specs::Audit::leaf_twin))]
 fn leaf(rows: &Rows, path: &Path, reference: u32, lent: Lent) -> Option<Lent>
     requires { reference ≤ length (numbers rows.now) }
