@@ -9,6 +9,7 @@
 //! - `three_words`: the same function over the form of 5B + 2 links.
 //! - `looped`: faster still by other steps. It calls nothing, and gathers the heads that cover before it marks their chains.
 //! - `wide_plain`, `wide_fastest`: the first two over signatures of W words, W known when they run; so for the calls that change tables.
+//! - `wide_compared`: `wide_plain` that trusts no chain, but compares each block that it lists, as the library has to.
 #[path = "hand/change.rs"]
 mod change;
 #[path = "hand/search.rs"]
@@ -19,7 +20,7 @@ mod sign;
 mod words;
 
 pub use change::{file, rebuild, wide_file, wide_rebuild, wide_withdraw, withdraw};
-pub use search::{fastest, looped, plain, scan, three_words, wide_fastest, wide_plain, wide_scan};
+pub use search::{fastest, looped, plain, scan, three_words, wide_compared, wide_fastest, wide_plain, wide_scan};
 pub use sign::{sign, sign_fastest};
 
 #[derive(Clone, Copy, Debug, Default, PartialEq)]

@@ -17,6 +17,7 @@ pub enum Side {
     Scan,
     WidePlain,
     WideFastest,
+    WideCompared,
     WideScan,
 }
 
@@ -24,7 +25,7 @@ pub enum Side {
 pub const SIDES: [Side; 7] = [Side::Library, Side::Plain, Side::Fastest, Side::FastestNative, Side::Loop, Side::ThreeWords, Side::Scan];
 
 /// At any width.
-pub const WIDE_SIDES: [Side; 4] = [Side::Library, Side::WidePlain, Side::WideFastest, Side::WideScan];
+pub const WIDE_SIDES: [Side; 5] = [Side::Library, Side::WidePlain, Side::WideFastest, Side::WideCompared, Side::WideScan];
 
 /// `hand::fastest` compiled for this processor. The two crates are one source, but each has types of its own.
 ///
@@ -81,6 +82,7 @@ impl Searched {
                 Side::Scan => scanned(hand::scan(packed, query[0], m, o)),
                 Side::WidePlain => hand::wide_plain(packed, query, m, o),
                 Side::WideFastest => hand::wide_fastest(packed, query, m, o),
+                Side::WideCompared => hand::wide_compared(packed, query, m, o),
                 Side::WideScan => scanned(hand::wide_scan(packed, query, m, o)),
             }
         }

@@ -14,6 +14,7 @@ struct Row {
     bits: u32,
     to_plain: f64,
     to_fastest: f64,
+    to_compared: f64,
 }
 
 fn searches(name: &str, tree: &str, store: Store, rng: &mut Rng, rows: &mut Vec<Row>) {
@@ -22,22 +23,22 @@ fn searches(name: &str, tree: &str, store: Store, rng: &mut Rng, rows: &mut Vec<
     let (count, turns) = if is_large(blocks) { (16, 10) } else { (256, 25) };
     for bits in [0, 1, 2, 4, 8, 16, 32] {
         let queries = rng.queries(&x.store.signatures, width, count, bits);
-        let ([ours, plain, fastest, scan], [found, compares]) = x.measured(WIDE_SIDES, &queries, turns);
-        let (to_plain, to_fastest) = (ours / plain, ours / fastest);
-        let ratios = [to_plain, to_fastest, ours / scan].map(|ratio| format!("{ratio:.2}"));
+        let ([ours, plain, fastest, compared, scan], [found, compares]) = x.measured(WIDE_SIDES, &queries, turns);
+        let (to_plain, to_fastest, to_compared) = (ours / plain, ours / fastest, ours / compared);
+        let ratios = [to_plain, to_fastest, to_compared, ours / scan].map(|ratio| format!("{ratio:.2}"));
         let us = ours / 1000.0;
         println!("| {width} | {name} | {tree} | {bits} | {found:.0} | {compares:.0} | {us:.1} | {} |", ratios.join(" | "));
-        rows.push(Row { width, blocks, bits, to_plain, to_fastest });
+        rows.push(Row { width, blocks, bits, to_plain, to_fastest, to_compared });
     }
 }
 
 fn summary_of_searches(rows: &[Row]) {
-    heading("width | B | bits set | to hand-written | largest | to fastest | largest");
+    heading("width | B | bits set | to hand-written | largest | to fastest | largest | to compared | largest");
     for (width, blocks) in WIDTHS.into_iter().flat_map(|width| [(width, 1024), (width, 65535)]) {
         for (label, many) in [("4 and more", true), ("fewer", false)] {
             let is_of = |r: &&Row| r.width == width && r.blocks == blocks && (r.bits >= 4) == many;
             let some: Vec<&Row> = rows.iter().filter(is_of).collect();
-            let ratios = [|r: &Row| r.to_plain, |r: &Row| r.to_fastest];
+            let ratios = [|r: &Row| r.to_plain, |r: &Row| r.to_fastest, |r: &Row| r.to_compared];
             let cells = ratios.map(|ratio| mean_and_largest(&some, ratio)).map(|(mean, largest)| format!("{mean:.2} | {largest:.2}"));
             println!("| {width} | {blocks} | {label} | {} |", cells.join(" | "));
         }
@@ -60,7 +61,7 @@ pub fn tables() {
     println!("\nWidths of one word and of more, beside what is hand-written for W words, W known when it runs. A cover test goes word by");
     println!("word from the high one and stops at the first that fails.");
     heading(
-        "width | store | tree | bits set | found | compares | us a search | to hand-written | to fastest | to linear scan",
+        "width | store | tree | bits set | found | compares | us a search | to hand-written | to fastest | to compared | to linear scan",
     );
     let mut searched = Vec::new();
     for (width, stores) in &widths {

@@ -135,21 +135,65 @@ impl Form for ThreeWords {
     }
 }
 
+/// What a walk asks of the blocks on a chain after its head.
+trait Chains<S>: Copy {
+    unsafe fn admits(self, query: S, signature: S) -> bool;
+}
+
+/// Nothing: on sound tables they have the head's signature.
+#[derive(Clone, Copy)]
+struct Trusted;
+
+impl<S> Chains<S> for Trusted {
+    #[inline(always)]
+    unsafe fn admits(self, _: S, _: S) -> bool {
+        true
+    }
+}
+
+/// That each covers the query, which no table can then make untrue. Words of the query that are 0 before the first other one or after the
+/// last are not compared.
+#[derive(Clone, Copy)]
+struct Compared {
+    from: usize,
+    to: usize,
+}
+
+impl Compared {
+    fn of(query: &[u64]) -> Compared {
+        let from = query.iter().position(|word| *word != 0).unwrap_or(0);
+        Compared { from, to: query.iter().rposition(|word| *word != 0).map_or(0, |last| last + 1) }
+    }
+}
+
+impl Chains<Many> for Compared {
+    #[inline(always)]
+    unsafe fn admits(self, query: Many, signature: Many) -> bool {
+        query.is_covered_in(signature, self.from..self.to)
+    }
+}
+
 /// What a walk reads and marks at its leaves, and what it counts.
-struct Walk<S> {
+struct Walk<S, C> {
     signatures: *const u64,
     links: *const u32,
     marks: *mut u8,
     blocks: usize,
     width: u32,
     query: S,
+    chains: C,
     counts: Counts,
 }
 
-impl<S: Words> Walk<S> {
+impl<S: Words, C: Chains<S>> Walk<S, C> {
+    #[inline(always)]
+    unsafe fn stored(&self, block: usize) -> S {
+        S::stored(self.signatures, self.query.words(), block)
+    }
+
     #[inline(always)]
     unsafe fn covers(&self, head: usize) -> bool {
-        self.query.is_covered(S::stored(self.signatures, self.query.words(), head))
+        self.query.is_covered(self.stored(head))
     }
 
     /// Marks a chain whose head covers. The result is how many blocks it has.
@@ -178,7 +222,7 @@ impl<S: Words> Walk<S> {
             *self.marks.add(b - 1) = 1;
             marked += 1;
             b = *self.links.add(2 * b + 3) as usize;
-            if b == 0 {
+            if b == 0 || !self.chains.admits(self.query, self.stored(b)) {
                 return marked;
             }
         }
@@ -219,7 +263,7 @@ impl Tally {
     }
 
     #[inline(always)]
-    unsafe fn leaf<S: Words>(self, walk: &Walk<S>, head: usize) -> Tally {
+    unsafe fn leaf<S: Words>(self, walk: &Walk<S, Trusted>, head: usize) -> Tally {
         let marked = if walk.covers(head) { walk.mark_chain(head) } else { 0 };
         Tally(self.0 + Tally::COMPARE + marked as u64)
     }
@@ -234,7 +278,7 @@ impl Tally {
 /// 1.15; `plain` 1.29 and 1.20. By other steps: heads gathered as `looped` does 0.92 and 1.00; `looped` 0.78 and 0.93, with nothing
 /// gathered 0.93 and 0.98.
 unsafe fn sides<F: Form, S: Words>(
-    walk: &Walk<S>, query: S::Turned, blocks: usize, nodes: F, mut node: F::Node, mut tally: Tally,
+    walk: &Walk<S, Trusted>, query: S::Turned, blocks: usize, nodes: F, mut node: F::Node, mut tally: Tally,
 ) -> Tally {
     loop {
         tally.0 += Tally::BIT;
@@ -261,7 +305,7 @@ unsafe fn sides<F: Form, S: Words>(
     }
 }
 
-unsafe fn by_calls<F: Form, S: Words>(walk: &mut Walk<S>, nodes: F, root: usize) {
+unsafe fn by_calls<F: Form, S: Words>(walk: &mut Walk<S, Trusted>, nodes: F, root: usize) {
     let mut room = [0; 9];
     let query = walk.query.turned(walk.width, &mut room);
     walk.counts = sides(walk, query, walk.blocks, nodes, nodes.node(root), Tally(0)).counts();
@@ -275,7 +319,7 @@ impl Gathered {
 
     /// Compares a head and holds it where it covers. The result is how many are held.
     #[inline(always)]
-    unsafe fn compare(&mut self, walk: &mut Walk<u64>, head: usize, held: usize) -> usize {
+    unsafe fn compare(&mut self, walk: &mut Walk<u64, Trusted>, head: usize, held: usize) -> usize {
         self.0.get_unchecked_mut(held).write(head as u32);
         match held + walk.covers(head) as usize {
             Self::ROOM => self.mark(walk, Self::ROOM),
@@ -285,7 +329,7 @@ impl Gathered {
 
     /// Marks the chains of the heads that are held. None are held then.
     #[inline(never)]
-    unsafe fn mark(&mut self, walk: &mut Walk<u64>, held: usize) -> usize {
+    unsafe fn mark(&mut self, walk: &mut Walk<u64, Trusted>, held: usize) -> usize {
         for head in self.0.get_unchecked(..held) {
             walk.counts.found += walk.mark(head.assume_init() as usize);
         }
@@ -296,7 +340,7 @@ impl Gathered {
 /// The same tree in a loop. Right nodes wait on a stack of its own: at most one for each of 64 positions. Compares are not counted: every
 /// node whose bit is 0 has two sides, so the leaves are one more than those. With no branch on the query's bit and on leaf or node either
 /// it was slower as `hand_native`: 16 nodes at a time 1.4 at B 1,024 and 0.9 at 65,535, one at a time 2.3 and 1.4.
-unsafe fn by_loop(walk: &mut Walk<u64>, nodes: OneWord, root: usize) {
+unsafe fn by_loop(walk: &mut Walk<u64, Trusted>, nodes: OneWord, root: usize) {
     let (query, blocks) = (walk.query.turned(walk.width, &mut [0; 9]), walk.blocks);
     let mut gathered = Gathered([MaybeUninit::uninit(); Gathered::ROOM]);
     let mut waiting = [MaybeUninit::<u64>::uninit(); 64];
@@ -336,8 +380,8 @@ unsafe fn by_loop(walk: &mut Walk<u64>, nodes: OneWord, root: usize) {
 
 /// Clears the marks, walks from the root, by `from` where it is a node, and lists what is marked.
 #[inline(always)]
-unsafe fn search<S: Words>(
-    tables: Tables, query: S, marks: &mut [u8], output: &mut [u32], from: impl FnOnce(&mut Walk<S>, usize),
+unsafe fn search<S: Words, C: Chains<S>>(
+    tables: Tables, query: S, chains: C, marks: &mut [u8], output: &mut [u32], from: impl FnOnce(&mut Walk<S, C>, usize),
 ) -> Counts {
     let blocks = tables.blocks();
     marks[..blocks].fill(0);
@@ -348,6 +392,7 @@ unsafe fn search<S: Words>(
         blocks,
         width: tables.links[0],
         query,
+        chains,
         counts: Counts::default(),
     };
     match tables.links[2] as usize {
@@ -363,40 +408,47 @@ unsafe fn search<S: Words>(
 /// The tables are sound, and the marks and the output at least as long as the signatures; so for the others.
 #[inline(never)]
 pub unsafe fn plain(tables: Tables, query: u64, marks: &mut [u8], output: &mut [u32]) -> Counts {
-    search(tables, query, marks, output, |walk, root| walk.visit(OneWord::of(tables), root))
+    search(tables, query, Trusted, marks, output, |walk, root| walk.visit(OneWord::of(tables), root))
 }
 
 /// # Safety
 /// As for `plain`.
 #[inline(never)]
 pub unsafe fn fastest(tables: Tables, query: u64, marks: &mut [u8], output: &mut [u32]) -> Counts {
-    search(tables, query, marks, output, |walk, root| by_calls(walk, OneWord::of(tables), root))
+    search(tables, query, Trusted, marks, output, |walk, root| by_calls(walk, OneWord::of(tables), root))
 }
 
 /// # Safety
 /// As for `plain`.
 #[inline(never)]
 pub unsafe fn three_words(tables: Tables, query: u64, marks: &mut [u8], output: &mut [u32]) -> Counts {
-    search(tables, query, marks, output, |walk, root| by_calls(walk, ThreeWords::of(tables), root))
+    search(tables, query, Trusted, marks, output, |walk, root| by_calls(walk, ThreeWords::of(tables), root))
 }
 
 /// # Safety
 /// As for `plain`.
 #[inline(never)]
 pub unsafe fn looped(tables: Tables, query: u64, marks: &mut [u8], output: &mut [u32]) -> Counts {
-    search(tables, query, marks, output, |walk, root| by_loop(walk, OneWord::of(tables), root))
+    search(tables, query, Trusted, marks, output, |walk, root| by_loop(walk, OneWord::of(tables), root))
 }
 
 /// # Safety
 /// As for `plain`. The query has the words of the tables' width.
 #[inline(never)]
 pub unsafe fn wide_plain(tables: Tables, query: &[u64], marks: &mut [u8], output: &mut [u32]) -> Counts {
-    search(tables, Many::of(query), marks, output, |walk, root| walk.visit(OneWord::of(tables), root))
+    search(tables, Many::of(query), Trusted, marks, output, |walk, root| walk.visit(OneWord::of(tables), root))
 }
 
 /// # Safety
 /// As for `wide_plain`.
 #[inline(never)]
 pub unsafe fn wide_fastest(tables: Tables, query: &[u64], marks: &mut [u8], output: &mut [u32]) -> Counts {
-    search(tables, Many::of(query), marks, output, |walk, root| by_calls(walk, OneWord::of(tables), root))
+    search(tables, Many::of(query), Trusted, marks, output, |walk, root| by_calls(walk, OneWord::of(tables), root))
+}
+
+/// # Safety
+/// As for `wide_plain`.
+#[inline(never)]
+pub unsafe fn wide_compared(tables: Tables, query: &[u64], marks: &mut [u8], output: &mut [u32]) -> Counts {
+    search(tables, Many::of(query), Compared::of(query), marks, output, |walk, root| walk.visit(OneWord::of(tables), root))
 }

@@ -1,5 +1,6 @@
 //! A signature or query as what is hand-written has it: one word, which stays in a register, or W words, the high one first, W known when
 //! it runs. Searches and changes are written once and compiled for either.
+use std::ops::Range;
 use std::ptr::{copy_nonoverlapping, read_volatile, write_volatile};
 
 /// Room for a turned query: position j at bit j mod 64 of word j / 64, so that a node's position finds its bit.
@@ -109,6 +110,11 @@ impl Many {
     unsafe fn word(self, i: usize) -> u64 {
         *self.first.add(i)
     }
+    /// Whether these words of it are covered.
+    #[inline(always)]
+    pub unsafe fn is_covered_in(self, signature: Many, mut words: Range<usize>) -> bool {
+        words.all(|i| self.word(i) & !signature.word(i) == 0)
+    }
     /// How many words before a signature's end the one with a position stands, and how far the position from its right.
     #[inline(always)]
     fn place(width: u32, position: u32) -> (usize, u32) {
@@ -187,7 +193,7 @@ impl Words for Many {
     }
     #[inline(always)]
     unsafe fn is_covered(self, signature: Many) -> bool {
-        self.high & !signature.word(0) == 0 && (1..self.words).all(|i| self.word(i) & !signature.word(i) == 0)
+        self.high & !signature.word(0) == 0 && self.is_covered_in(signature, 1..self.words)
     }
     #[inline(always)]
     unsafe fn is(self, other: Many) -> bool {
