@@ -59,7 +59,7 @@ unfolding triplets_from
 inside_from F a b [] h = tt
 inside_from F a b (c ∷ l) h = ((position_inside F a b c h).0, (position_inside F a b c h).1, inside_from F b c l h)
 
-inside_triplets : (F : ℕ) (w : List ℕ) → 1 ≤ F → Inside F (triplets F w)
+pub inside_triplets : (F : ℕ) (w : List ℕ) → 1 ≤ F → Inside F (triplets F w)
 unfolding triplets
 inside_triplets F [] h = tt
 inside_triplets F (a ∷ []) h = tt

@@ -4,11 +4,11 @@ pub mod Runs
 pub mod Numbered
 pub mod Covered
 pub mod Splitting
-pub mod Turns
 pub mod Signing
 pub mod Triplets
 pub mod Different
 pub mod Setting
-pub mod Adding
+pub mod Stamping
+pub mod Front
 pub mod Asked
 mod Examples

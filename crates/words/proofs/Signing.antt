@@ -1,22 +1,23 @@
--- The signature of a text from the parts between its separators: it is the OR over them, since a part of no bytes sets nothing. And a
--- word's signature from its windows of three bytes: each is a triplet, and the next of those that are ahead.
+-- The signature of a text, run by run: it is the OR over the runs up to the next separator, since a run of no bytes sets nothing. And a
+-- word's signature from its windows of three bytes: each is a triplet, and the next of those that are ahead, until K positions are set.
 -- Assumes nothing.
-use mathlib.Core.Path.{◌≡◌, refl, sym, ap, ap₂, ◌∙◌}
-use mathlib.Core.Bool.{Bool, true, false, cond}
+use mathlib.Core.Path.{◌≡◌, refl, sym, ap, ap₂, ◌∙◌, subst}
+use mathlib.Core.Bool.{Bool, true, false, cond, not}
 use mathlib.Core.List.{List, [], ◌∷◌, ◌++◌, append-nil, append_assoc}
-use Prim.Native.Nat.{ℕ, zero, suc, ◌+◌, ◌≤◌, ◌<◌}
+use Prim.Native.Nat.{ℕ, zero, suc, ◌+◌, ◌-◌, ◌≤◌, ◌<◌}
 use native.Mathlib.Omega.{arith}
-use lib.ListN.{length, get_or, take, drop, length-drop}
-use lib.Seq.{take-suc, take-nil, get_or-drop, drop-cons}
+use lib.ListN.{length, get_or, take, drop, length-take, drop_of_length-le}
+use lib.Seq.{take-nil, drop-drop}
 use lib.Bits.{bit_or, or_zero_r}
-use Rattle.std.specs.List.{slice_split, onto_first}
+use Rattle.std.specs.List.{position_or_len, after_first}
 use Rattle.model.specs.Words.{Part, separator, ended, scan, parts_of, bytes_over, words_of, triplet_position, triplets_from, triplets, different, positions_of, set_all, word_signature, or_over, text_signature}
 use Rattle.signature.proofs.Bits.{or_assoc}
-use Rattle.words.specs.Pass.{Sets}
+use Rattle.words.specs.Pass.{Inside, Sets}
 use Rattle.words.proofs.Triplets.{triplets_short}
-use Rattle.words.proofs.Setting.{sets_none}
+use Rattle.words.proofs.Setting.{sets_none, sets_full}
+use Rattle.words.proofs.Covered.{inside_triplets}
 
--- ---- the parts between separators
+-- ---- the words from a byte on
 
 word_none : (F K : ℕ) → word_signature F K [] ≡ 0
 unfolding word_signature positions_of triplets different set_all
@@ -29,90 +30,56 @@ unfolding or_over bytes_over ended
 ended_or F K text s zero ps = ap (λ (n : ℕ). bit_or n (or_over F K (bytes_over text ps))) (sym (word_none F K))
 ended_or F K text s (suc n) ps = refl
 
--- some bytes in front of the first part
-onto : List ℕ → List (List ℕ) → List (List ℕ)
-onto w [] = w ∷ []
-onto w (p ∷ ps) = (w ++ p) ∷ ps
-
-onto_one : (w : List ℕ) (b : ℕ) (ps : List (List ℕ)) → onto w (onto_first b ps) ≡ onto (w ++ (b ∷ [])) ps
-unfolding onto
-onto_one w b [] = refl
-onto_one w b (p ∷ ps) = ap (λ (v : List ℕ). v ∷ ps) (sym (append_assoc w (b ∷ []) p))
-
-onto_none : (F K : ℕ) (ps : List (List ℕ)) → or_over F K (onto [] ps) ≡ or_over F K ps
-unfolding or_over onto
-onto_none F K [] = ap (λ (n : ℕ). bit_or n 0) (word_none F K)
-onto_none F K (p ∷ ps) = refl
-
-module _ (text : List ℕ) (s n b : ℕ) (l : List ℕ) (e : drop (s + n) text ≡ b ∷ l) where
-  inside : s + n < length text
-  inside = omega (arith, length-drop (s + n) text, ap length e)
-
-  cut : get_or text (s + n) 0 ∷ drop (suc (s + n)) text ≡ b ∷ l
-  cut = sym (drop-cons text (s + n) 0 inside) ∙ e
-
-  behind : drop (suc (s + n)) text ≡ l
-  behind = ap (drop 1) cut
-
-  -- the run that starts at s, with the byte behind its n bytes
-  run_next : take (suc n) (drop s text) ≡ take n (drop s text) ++ (b ∷ [])
-  run_next =
-      take-suc (drop s text) n 0 (omega (arith, inside, length-drop s text))
-      ∙ ap (λ (x : ℕ). take n (drop s text) ++ (x ∷ [])) (get_or-drop s text n 0 ∙ ap (λ (r : List ℕ). get_or r 0 0) cut)
-
--- the OR over the words from a byte on, of which n bytes of a run are behind
-scan_or : (F K : ℕ) (text : List ℕ) (s n : ℕ) (l : List ℕ) → drop (s + n) text ≡ l
-    → or_over F K (bytes_over text (scan s n l)) ≡ or_over F K (onto (take n (drop s text)) (slice_split separator l))
-unfolding scan or_over onto bytes_over
-scan_or F K text s n [] e =
-    ended_or F K text s n [] ∙ ap (λ (w : List ℕ). bit_or (word_signature F K w) 0) (sym (append-nil (take n (drop s text))))
-scan_or F K text s n (b ∷ l) e =
-    go (separator b) (scan_or F K text (suc (s + n)) 0 l (ap (λ (k : ℕ). drop k text) z ∙ rest)) (scan_or F K text s (suc n) l (ap (λ (k : ℕ). drop k text) t ∙ rest))
+-- a run that has n bytes so far ends at the next separator, and the words go on behind that
+scan_run : (s n : ℕ) (l : List ℕ) → scan s n l ≡ ended s (n + position_or_len separator l) (scan (suc (s + (n + position_or_len separator l))) 0 (after_first separator l))
+unfolding scan ended
+scan_run s n [] = let z : n + 0 ≡ n = omega arith in ap (λ (m : ℕ). ended s m []) (sym z)
+scan_run s n (b ∷ l) = go (separator b) (scan_run s (suc n) l)
   where
-    z : suc (s + n) + 0 ≡ suc (s + n)
-    z = omega arith
+    q : ℕ
+    q = position_or_len separator l
 
-    t : s + suc n ≡ suc (s + n)
-    t = omega arith
+    size : Bool → ℕ
+    size y = cond (not y) (1 + q) 0
 
-    rest : drop (suc (s + n)) text ≡ l
-    rest = behind text s n b l e
+    go : (y : Bool) → scan s (suc n) l ≡ ended s (suc n + q) (scan (suc (s + (suc n + q))) 0 (drop (q + 1) l))
+        → cond y (ended s n (scan (suc (s + n)) 0 l)) (scan s (suc n) l) ≡ ended s (n + size y) (scan (suc (s + (n + size y))) 0 (drop (size y + 1) (b ∷ l)))
+    go true h = let z : n + 0 ≡ n = omega arith in ap (λ (m : ℕ). ended s m (scan (suc (s + m)) 0 l)) (sym z)
+    go false h =
+        let e : suc n + q ≡ n + (1 + q) = omega arith in
+        let f : suc (q + 1) ≡ 1 + q + 1 = omega arith in
+        h ∙ ap₂ (λ (m k : ℕ). ended s m (scan (suc (s + m)) 0 (drop k (b ∷ l)))) e f
 
-    run : List ℕ
-    run = take n (drop s text)
+-- what the words behind byte `start` have signed, and those from there on
+pub record TextSigns (F K : ℕ) (text : List ℕ) (signed start : ℕ) : Type 0 where
+  pub whole : bit_or signed (or_over F K (bytes_over text (scan start 0 (drop start text)))) ≡ text_signature F K text
 
-    parts : List (List ℕ)
-    parts = slice_split separator l
-
-    go : (y : Bool) → or_over F K (bytes_over text (scan (suc (s + n)) 0 l)) ≡ or_over F K (onto [] parts)
-        → or_over F K (bytes_over text (scan s (suc n) l)) ≡ or_over F K (onto (take (suc n) (drop s text)) parts)
-        → or_over F K (bytes_over text (cond y (ended s n (scan (suc (s + n)) 0 l)) (scan s (suc n) l))) ≡ or_over F K (onto run (cond y ([] ∷ parts) (onto_first b parts)))
-    go true h k =
-        ended_or F K text s n (scan (suc (s + n)) 0 l) ∙ ap (bit_or (word_signature F K run)) (h ∙ onto_none F K parts)
-        ∙ ap (λ (w : List ℕ). bit_or (word_signature F K w) (or_over F K parts)) (sym (append-nil run))
-    go false h k = k ∙ ap (λ (w : List ℕ). or_over F K (onto w parts)) (run_next text s n b l e) ∙ ap (or_over F K) (sym (onto_one run b parts))
-
--- a text's signature is the OR over the parts between its separators
-pub split_or : (F K : ℕ) (text : List ℕ) → or_over F K (slice_split separator text) ≡ text_signature F K text
+pub text_begins : (F K : ℕ) (text : List ℕ) → TextSigns F K text 0 0
 unfolding text_signature words_of parts_of
-split_or F K text = sym (scan_or F K text 0 0 text refl ∙ onto_none F K (slice_split separator text))
+text_begins F K text = record { whole = refl }
 
--- what the parts behind have signed, and the parts ahead
-pub record TextSigns (F K : ℕ) (text : List ℕ) (signed : ℕ) (ws : List (List ℕ)) : Type 0 where
-  pub whole : bit_or signed (or_over F K ws) ≡ text_signature F K text
+-- the run from `start` on is a word or empty
+pub text_next : (F K : ℕ) (text : List ℕ) (signed start end : ℕ) → end ≡ start + position_or_len separator (drop start text) → TextSigns F K text signed start
+    → TextSigns F K text (bit_or signed (word_signature F K (take (end - start) (drop start text)))) (end + 1)
+text_next F K text signed start end e s =
+    let q : ℕ = position_or_len separator (drop start text) in
+    let own : ℕ = word_signature F K (take (end - start) (drop start text)) in
+    let size : 0 + q ≡ end - start = omega arith in
+    let next : suc (start + (0 + q)) ≡ end + 1 = omega arith in
+    let behind : drop (q + 1) (drop start text) ≡ drop (end + 1) text =
+    drop-drop (q + 1) start text ∙ ap (λ (k : ℕ). drop k text) (omega arith)
+    in
+    let rest : or_over F K (bytes_over text (scan start 0 (drop start text))) ≡ bit_or own (or_over F K (bytes_over text (scan (end + 1) 0 (drop (end + 1) text)))) =
+    ap (λ (ps : List Part). or_over F K (bytes_over text ps)) (scan_run start 0 (drop start text))
+    ∙ ended_or F K text start (0 + q) (scan (suc (start + (0 + q))) 0 (drop (q + 1) (drop start text)))
+    ∙ ap₂ (λ (n : ℕ) (ps : List Part). bit_or (word_signature F K (take n (drop start text))) (or_over F K (bytes_over text ps))) size (ap₂ (λ (i : ℕ) (l : List ℕ). scan i 0 l) next behind)
+    in
+    record { whole = or_assoc signed own (or_over F K (bytes_over text (scan (end + 1) 0 (drop (end + 1) text)))) ∙ ap (bit_or signed) (sym rest) ∙ s.whole }
 
-pub text_begins : (F K : ℕ) (text : List ℕ) → TextSigns F K text 0 (slice_split separator text)
-text_begins F K text = record { whole = split_or F K text }
-
-pub text_next : (F K : ℕ) (text : List ℕ) (signed own : ℕ) (w : List ℕ) (ws : List (List ℕ)) → own ≡ word_signature F K w → TextSigns F K text signed (w ∷ ws)
-    → TextSigns F K text (bit_or signed own) ws
-unfolding or_over
-text_next F K text signed own w ws e s =
-    record { whole = or_assoc signed own (or_over F K ws) ∙ ap (λ (n : ℕ). bit_or signed (bit_or n (or_over F K ws))) e ∙ s.whole }
-
-pub text_ends : (F K : ℕ) (text : List ℕ) (signed : ℕ) → TextSigns F K text signed [] → signed ≡ text_signature F K text
-unfolding or_over
-text_ends F K text signed s = sym (or_zero_r signed) ∙ s.whole
+pub text_ends : (F K : ℕ) (text : List ℕ) (signed start : ℕ) → length text ≤ start → TextSigns F K text signed start → signed ≡ text_signature F K text
+unfolding or_over bytes_over scan ended
+text_ends F K text signed start h s =
+    sym (or_zero_r signed) ∙ ap (λ (l : List ℕ). bit_or signed (or_over F K (bytes_over text (scan start 0 l)))) (sym (drop_of_length-le text h)) ∙ s.whole
 
 -- ---- the windows of a word
 
@@ -150,3 +117,20 @@ word_ends F K word rest bits count h u =
     let none : triplets F rest ≡ [] = triplets_short F rest (omega arith) in
     let all : u.js ≡ triplets F word = sym (append-nil u.js) ∙ ap (λ (r : List ℕ). u.js ++ r) (sym none) ∙ u.whole in
     u.sets.signed ∙ ap (λ (r : List ℕ). set_all F (take K (different r))) all
+
+-- at most K positions are set
+pub word_few : (F K : ℕ) (word rest : List ℕ) (bits count : ℕ) → WordSigns F K word rest bits count → count ≤ K
+word_few F K word rest bits count u = omega (arith, u.sets.counted, length-take K (different u.js))
+
+-- the triplets ahead are no news once K are
+sets_ahead : (F K : ℕ) (l js : List ℕ) (bits count : ℕ) → Inside F l → K ≤ count → Sets F K js bits count → Sets F K (js ++ l) bits count
+sets_ahead F K [] js bits count i h s = subst (λ (r : List ℕ). Sets F K r bits count) (sym (append-nil js)) s
+sets_ahead F K (j ∷ l) js bits count i h s =
+    subst (λ (r : List ℕ). Sets F K r bits count) (append_assoc js (j ∷ []) l)
+    (sets_ahead F K l (js ++ (j ∷ [])) bits count i.2 h (sets_full F K js j bits count i.0 i.1 s h))
+
+pub word_full : (F K : ℕ) (word rest : List ℕ) (bits count : ℕ) → 1 ≤ F → K ≤ count → WordSigns F K word rest bits count → bits ≡ word_signature F K word
+unfolding word_signature positions_of
+word_full F K word rest bits count p h u =
+    let s : Sets F K (u.js ++ triplets F rest) bits count = sets_ahead F K (triplets F rest) u.js bits count (inside_triplets F rest p) h u.sets in
+    s.signed ∙ ap (λ (r : List ℕ). set_all F (take K (different r))) u.whole

@@ -1,7 +1,7 @@
 // Words: the splitter, which gives back a word of a text, and the signer, which fills lent words with the text's signature.
 #![tactic(auto)]
 
-mod own;
+mod draft;
 mod question;
 mod signer;
 mod splitter;

@@ -1,21 +1,14 @@
 // The signature of a text: the OR over its words, each of which sets the positions of its triplets.
-ghost use Rattle.std.specs.Prelude.{◌≡◌, List, [], ◌∷◌, ◌++◌, ℕ, ◌*◌, ◌^◌, ◌≤◌, ◌<◌, length};
+ghost use Rattle.std.specs.Prelude.{◌≡◌, List, [], ◌∷◌, ◌++◌, ℕ, ◌≤◌, ◌<◌, length};
 ghost use Rattle.std.specs.Int.Bits.{bit_or};
-ghost use Rattle.model.specs.Limits.{widest, word_bits};
+ghost use Rattle.model.specs.Limits.{widest};
 ghost use Rattle.model.specs.Wide.{word_count, number_in};
 ghost use Rattle.model.specs.Words.{most_positions, triplet_position, word_signature, text_signature};
 ghost use Rattle.words.specs.Pass.{Sets};
 
-use crate::own::Own;
-use crate::splitter::is_separator;
+use crate::draft::{Draft, ManyWords, OneWord};
+use crate::splitter::end_of_run;
 use signature::{MOST_WORDS, Position};
-
-// What a word has set so far: its own signature, and how many different positions that are, which document 01's K bounds.
-#[derive(Drop)]
-struct Word<S> {
-    own: S,
-    count: u32,
-}
 
 // How texts are signed: the width of a signature, and k, the number of different positions that a word sets at most.
 #[derive(Clone, Copy)]
@@ -24,18 +17,8 @@ pub struct Signer {
     pub k: u32,
     ghost some: { 1 ≤ width },
     ghost fits: { width ≤ widest },
+    ghost any: { 1 ≤ k },
     ghost few: { k ≤ most_positions },
-}
-
-// Sets in a text's signature what is set in a word's own. That has room for the widest width: what stands in front is 0.
-fn add(signature: &mut [u64], own: &[u64])
-    requires { (length signature.old ≤ length own.now) × (number_in own.now < 2 ^ (word_bits * length signature.old)) }
-    ensures { number_in signature.new ≡ bit_or (number_in signature.old) (number_in own.now) }
-{
-    let unused = own.len() - signature.len();
-    for i in 0..signature.len() {
-        signature[i] |= own[unused + i];
-    }
 }
 
 impl Signer {
@@ -50,66 +33,62 @@ impl Signer {
         }
     }
 
-    // Sets one more triplet's position in a word's own signature, unless it is set already or the word has set k.
-    fn add_position<S: Own>(self, word: &mut Word<S>, position: Position)
-        requires { position.width ≤ S.places }
-        ensures { (js : List ℕ) → Sets position.width self.k js (S.number word.old.own) word.old.count → Sets position.width self.k (js ++ (position.number ∷ [])) (S.number word.new.own) word.new.count }
+    // Sets one more triplet's position, unless the word has set it already. The result is how many different ones the word has set, which
+    // were fewer than k.
+    fn add_position<D: Draft>(self, draft: &mut D, position: Position, count: u32) -> u32
+        requires { (position.width ≤ D.places) × (count < self.k) }
+        ensures own { (js : List ℕ) → Sets position.width self.k js (D.own draft.old) count → Sets position.width self.k (js ++ (position.number ∷ [])) (D.own draft.new) result }
+        ensures signed { (before : ℕ) → D.signed draft.old ≡ bit_or before (D.own draft.old) → D.signed draft.new ≡ bit_or before (D.own draft.new) }
     {
-        if word.count >= self.k || word.own.has(position) {
-            return;
+        if draft.has(position) {
+            return count;
         }
-        word.own.set(position);
-        word.count += 1;
+        draft.set(position);
+        count + 1
     }
 
-    // A word's own signature, made from one in which none is set. A word under three bytes has no triplet.
-    fn sign_word<S: Own>(self, bytes: &[u8], none: S) -> S
-        requires { (self.width ≤ S.places) × (S.number none ≡ 0) }
-        ensures { S.number result ≡ word_signature self.width self.k bytes.now }
+    // Signs a word: sets its first k different positions. A word under three bytes has no triplet.
+    fn sign_word<D: Draft>(self, bytes: &[u8], draft: &mut D)
+        requires { self.width ≤ D.places }
+        ensures { D.signed draft.new ≡ bit_or (D.signed draft.old) (word_signature self.width self.k bytes.now) }
     {
-        let mut word = Word {
-            own: none,
-            count: 0,
-        };
+        draft.begin_word();
+        let mut count = 0;
         for &[a, b, c] in bytes.array_windows::<3>() {
-            self.add_position(&mut word, self.position(a, b, c));
+            count = self.add_position(draft, self.position(a, b, c), count);
+            if count == self.k {
+                return;
+            }
         }
-        word.own
     }
 
-    // The signature of a text where 64 bits have room for it: the OR over the words' own. Between two separators stands a word or nothing,
-    // which sets no position.
-    fn sign_in_one(self, text: &[u8]) -> u64
-        requires { self.width ≤ word_bits }
-        ensures { result ≡ text_signature self.width self.k text.now }
+    // Signs a text, in a draft in which nothing is set: the OR over its words. Between two separators stands a word or nothing, which sets
+    // no position. A loop over `split` would not be covered by the check: the function has a type parameter.
+    fn sign_text<D: Draft>(self, text: &[u8], draft: &mut D)
+        requires { (self.width ≤ D.places) × (D.signed draft.old ≡ 0) }
+        ensures { D.signed draft.new ≡ text_signature self.width self.k text.now }
     {
-        let mut signed = 0;
-        for word in text.split(is_separator) {
-            signed |= self.sign_word(word, 0u64);
-        }
-        signed
-    }
-
-    // The same in lent words, where they have not.
-    fn sign_in_many(self, text: &[u8], signature: &mut [u64])
-        requires { length signature.old ≡ word_count self.width }
-        ensures { number_in signature.new ≡ text_signature self.width self.k text.now }
-    {
-        signature.fill(0);
-        for word in text.split(is_separator) {
-            add(signature, &self.sign_word(word, [0; MOST_WORDS]));
+        let mut start = 0;
+        while start < text.len() {
+            let end = end_of_run(text, start);
+            self.sign_word(&text[start..end], draft);
+            start = end + 1;
         }
     }
 
-    // Fills as many words as the width has with the signature of a text.
+    // Fills as many words as the width has with the signature of a text. Where the draft has more, those in front are 0.
     pub fn sign(self, text: &[u8], signature: &mut [u64])
         requires { length signature.old ≡ word_count self.width }
         ensures { number_in signature.new ≡ text_signature self.width self.k text.now }
     {
         if signature.len() == 1 {
-            signature[0] = self.sign_in_one(text);
+            let mut draft = OneWord { own: 0, before: 0 };
+            self.sign_text(text, &mut draft);
+            signature[0] = draft.before | draft.own;
         } else {
-            self.sign_in_many(text, signature);
+            let mut draft = ManyWords::none();
+            self.sign_text(text, &mut draft);
+            signature.copy_from_slice(&draft.words[MOST_WORDS - signature.len()..]);
         }
     }
 }

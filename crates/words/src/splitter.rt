@@ -1,5 +1,6 @@
 // Where the words of a text stand: the longest runs of bytes other than the separators.
-ghost use Rattle.std.specs.Prelude.{◌≡◌, ◌≤◌, length};
+ghost use Rattle.std.specs.Prelude.{◌≡◌, ◌+◌, ◌≤◌, length, drop};
+ghost use Rattle.std.specs.List.{position_or_len};
 ghost use Rattle.model.specs.Words.{separator, word_at};
 ghost use Rattle.words.specs.Parts.{part_of};
 
@@ -10,6 +11,16 @@ pub fn is_separator(byte: &u8) -> bool
     ensures { result ≡ separator byte.now }
 {
     *byte == b' ' || *byte == b'\n'
+}
+
+// Where the bytes from one on that are no separators end: at the next separator, or at the text's end.
+pub fn end_of_run(text: &[u8], start: usize) -> usize
+    requires { start ≤ length text.now }
+    ensures run { result ≡ start + position_or_len separator (drop start text.now) }
+    ensures inside { (start ≤ result) × (result ≤ length text.now) }
+{
+    let rest = &text[start..];
+    start + rest.iter().position(is_separator).unwrap_or(rest.len())
 }
 
 // The place of word n, counted from 1; the empty place at the text's end where there is none. It goes over the bytes, since the parts

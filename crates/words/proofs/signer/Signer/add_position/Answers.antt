@@ -1,24 +1,26 @@
--- `add_position` meets its contract: K are set already, or the position is, or it is a new one.
+-- `add_position` meets its contract: the position is set already, or it is a new one.
 -- Assumes nothing.
-use mathlib.Core.Path.{sym, ◌∙◌, subst}
+use mathlib.Core.Path.{sym, ap, ◌∙◌, subst}
 use mathlib.Core.List.{[], ◌∷◌, ◌++◌}
-use Prim.Native.Nat.{ℕ, ◌+◌}
-use Rattle.signature.proofs.Bits.{bit_set, bit_clear}
+use Prim.Native.Nat.{ℕ, ◌+◌, ◌-◌, ◌^◌}
+use lib.Bits.{bit_or}
+use Rattle.signature.proofs.Bits.{bit_set, bit_clear, or_assoc}
 use Rattle.words.specs.Pass.{Sets}
-use Rattle.words.proofs.Setting.{sets_full, sets_known, sets_fresh}
+use Rattle.words.proofs.Setting.{sets_known, sets_fresh}
 use Rattle.words.proofs.signer.Signer.add_position.Goals as goal
-use Rattle.words.proofs.signer.Signer.add_position.Goals.{then-word-self-via-then-word-self, then-word-self-via-else-word-self+then-has}
 
-pub returns-then-word-self : goal.returns-then-word-self
-returns-then-word-self g c js s =
-    let r = c.args.position.inside in
-    elim c.then-word-self.branch [
-      | then-word-self-via-then-word-self w ↦ sets_full _ _ js _ _ _ r.0 r.1 s w.if-word-self.true
-      | then-word-self-via-else-word-self+then-has w ↦ sets_known _ _ js _ _ _ r.0 r.1 s w.if-word-self.false (bit_set _ _ _ (sym w.has.ensures ∙ w.if-has.true))
-    ]
-
-pub returns : goal.returns
-returns g c js s =
+pub returns-then-has-clause-own : goal.returns-then-has-clause-own
+returns-then-has-clause-own g c js s =
     let p = c.args.position in
-    subst (λ (n : ℕ). Sets p.width c.args.self.k (js ++ (p.number ∷ [])) n (c.args.word.now.count + 1)) (sym c.set.ensures)
-    (sets_fresh _ _ js _ _ _ p.inside.0 p.inside.1 s c.if-word-self.false (bit_clear _ _ _ (sym c.has.ensures ∙ c.if-has.false)))
+    sets_known _ _ js _ _ _ p.inside.0 p.inside.1 s c.requires.1 (bit_set _ _ _ (sym c.has.ensures ∙ c.if-has.true))
+
+pub returns-clause-own : goal.returns-clause-own
+returns-clause-own g c js s =
+    let p = c.args.position in
+    subst (λ (n : ℕ). Sets p.width c.args.self.k (js ++ (p.number ∷ [])) n (c.args.count + 1)) (sym c.set.ensures.own)
+    (sets_fresh _ _ js _ _ _ p.inside.0 p.inside.1 s c.requires.1 (bit_clear _ _ _ (sym c.has.ensures ∙ c.if-has.false)))
+
+pub returns-clause-signed : goal.returns-clause-signed
+returns-clause-signed g c before s =
+    let bit : ℕ = 2 ^ (c.args.position.width - c.args.position.number) in
+    c.set.ensures.signed ∙ ap (λ (n : ℕ). bit_or n bit) s ∙ or_assoc before (g.D.Draft.own c.args.draft.now) bit ∙ ap (bit_or before) (sym c.set.ensures.own)

@@ -1,8 +1,0 @@
--- `sign_in_one` meets its contract: what is signed so far and the parts that are left are the whole text.
--- Assumes nothing.
-use Rattle.words.proofs.Signing.{TextSigns}
-use Rattle.words.proofs.Turns.{left}
-use Rattle.words.proofs.signer.Signer.sign_in_one.Given as goal
-
-abbrev pub invariant-loop-word : goal.invariant-loop-word
-invariant-loop-word l = TextSigns l.self.width l.self.k l.text l.signed (left l.text l.yielded)
