@@ -85,6 +85,8 @@ for width, lent in [(65, 2), (70, 2), (127, 2), (128, 2), (129, 3), (511, 8), (5
     show(b"the quick brown fox", width, 8, lent)
 show(long[:4096], 70, 8, 2)
 show(long[:4096], 512, 8, 8)
+# 256 words
+show(b"abcd" + b" x" * 254 + b" abcd", 512, 1, 8)
 # refusals
 for text, width, k, lent in [(b"prof", 0, 8, 0), (b"prof", 0, 8, 1), (b"prof", 513, 8, 8), (b"prof", 513, 8, 9), (b"prof", 64, 8, 0),
                              (b"prof", 64, 8, 2), (b"prof", 65, 8, 1), (b"prof", 65, 8, 3), (b"prof", 512, 8, 7), (b"prof", 12, 0, 1),

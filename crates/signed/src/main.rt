@@ -80,6 +80,18 @@ fn wide(rt: &impl Print, long: &[u8]) -> io::Result<()> {
     Ok(())
 }
 
+// 256 words, more than a byte can number: the last is the first again and sets one position, as the first did. The others set none.
+fn many(rt: &impl Print) -> io::Result<()> {
+    let mut text = [b' '; 517];
+    for i in 0..254 {
+        text[5 + 2 * i] = b'x';
+    }
+    text[..4].copy_from_slice(b"abcd");
+    text[513..].copy_from_slice(b"abcd");
+    show(rt, &text, 512, 1, 8)?;
+    Ok(())
+}
+
 // Each question's no, and that the first one decides. The long text has 4,097 bytes.
 fn refusals(rt: &impl Print, long: &[u8]) -> io::Result<()> {
     show(rt, b"prof", 0, 8, 0)?;
@@ -140,6 +152,7 @@ fn main(rt: HostRuntime) -> io::Result<()> {
     show(&rt, &text[0..4096], 64, 8, 1)?;
     show(&rt, &text[0..4096], 12, 1, 1)?;
     wide(&rt, &text[0..4096])?;
+    many(&rt)?;
     refusals(&rt, &text)?;
     covered(&rt, 64, 1)?;
     covered(&rt, 70, 2)?;
