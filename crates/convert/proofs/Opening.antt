@@ -1,14 +1,13 @@
 -- What the loop of an unpacking leaves, and its promise.
 -- Assumes nothing.
-use Prim.Native.Nat.{ℕ, ◌+◌, ◌*◌, ◌≤◌, ◌<◌}
+use Prim.Native.Nat.{ℕ, ◌+◌, ◌*◌, ◌<◌}
 use native.Mathlib.Omega.{arith}
 use mathlib.Core.Path.{◌≡◌, refl, sym, ◌∙◌, ap, ap₂}
-use mathlib.Core.List.{List, [], ◌∷◌, ◌++◌}
+use mathlib.Core.List.{List, [], ◌∷◌, ◌++◌, append_assoc}
 use native.Mathlib.Numerals.{add-one}
-use lib.ListN.{length, get_or, take}
+use lib.ListN.{length, get_or, take, set, length-set}
 use lib.Seq.{take-suc}
-use borrow.Rule.Slice.PartMut.{put_mid}
-use Rattle.std.proofs.lemmas.Slice.{take-put_mid}
+use Rattle.std.proofs.lemmas.List.{take_more_set}
 use mathlib.Core.Logic.{◌≢◌}
 use mathlib.Core.Bool.{true, ◌&&◌}
 use Rattle.model.specs.Promises.{AuditPromise}
@@ -23,13 +22,28 @@ opened_append [] ys = refl
 opened_append (w ∷ xs) ys = ap (λ (l : List ℕ). position_in w ∷ left_in w ∷ right_in w ∷ l) (opened_append xs ys)
 
 -- one node more is written, to three words from its place on
-pub open_more : (nodes words three : List ℕ) (i k : ℕ) → i < length nodes → 3 * i ≤ length words → take (3 * i) words ≡ opened (take i nodes)
-    → three ≡ position_in (get_or nodes i 0) ∷ left_in (get_or nodes i 0) ∷ right_in (get_or nodes i 0) ∷ [] → take (3 * (i + 1)) (put_mid (3 * i) k words three) ≡ opened (take (i + 1) nodes)
+pub open_more : (nodes words : List ℕ) (i : ℕ) → i < length nodes → 3 * i + 2 < length words → take (3 * i) words ≡ opened (take i nodes)
+    → take (3 * (i + 1)) (set (set (set words (3 * i) (position_in (get_or nodes i 0))) (3 * i + 1) (left_in (get_or nodes i 0))) (3 * i + 2) (right_in (get_or nodes i 0))) ≡ opened (take (i + 1) nodes)
 unfolding opened
-open_more nodes words three i k h room e et =
-    let long : length three ≡ 3 = ap length et in
-    take-put_mid (3 * i) k words three (3 * (i + 1)) (omega arith) room
-    ∙ ap₂ (λ (x y : List ℕ). x ++ y) e et
+open_more nodes words i h room e =
+    let p : ℕ = position_in (get_or nodes i 0) in
+    let l : ℕ = left_in (get_or nodes i 0) in
+    let r : ℕ = right_in (get_or nodes i 0) in
+    let one : List ℕ = set words (3 * i) p in
+    let two : List ℕ = set one (3 * i + 1) l in
+    let long : length one ≡ length words = length-set words (3 * i) p in
+    let longer : length two ≡ length one = length-set one (3 * i + 1) l in
+    let third : 3 * (i + 1) ≡ 3 * i + 2 + 1 = omega arith in
+    let second : 3 * i + 2 ≡ 3 * i + 1 + 1 = omega arith in
+    let written : take (3 * (i + 1)) (set two (3 * i + 2) r) ≡ ((take (3 * i) words ++ (p ∷ [])) ++ (l ∷ [])) ++ (r ∷ []) =
+    ap (λ (n : ℕ). take n (set two (3 * i + 2) r)) third
+    ∙ take_more_set two (3 * i + 2) r (omega (arith, long, longer, room))
+    ∙ ap (λ (w : List ℕ). w ++ (r ∷ [])) (ap (λ (n : ℕ). take n two) second ∙ take_more_set one (3 * i + 1) l (omega (arith, long, room)) ∙ ap (λ (w : List ℕ). w ++ (l ∷ [])) (take_more_set words (3 * i) p (omega (arith, room))))
+    in
+    written
+    ∙ append_assoc (take (3 * i) words ++ (p ∷ [])) (l ∷ []) (r ∷ [])
+    ∙ append_assoc (take (3 * i) words) (p ∷ []) (l ∷ r ∷ [])
+    ∙ ap (λ (w : List ℕ). w ++ (p ∷ l ∷ r ∷ [])) e
     ∙ sym (opened_append (take i nodes) (get_or nodes i 0 ∷ []))
     ∙ rw (add-one, take-suc nodes i 0 h) refl
 

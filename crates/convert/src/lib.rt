@@ -14,7 +14,20 @@ use answers::Refusal;
 use tables::nodes::{Parts, set_node};
 use tables::{Form, Tables, Unpacked, front};
 
-// The three words of each node. They are written by index: of what was written through `chunks_exact_mut` a proof knows the length alone.
+// Copies the words in front of the nodes. (By index: of the slices' own copy the compiler makes a call of C's `memmove`, which not everyone who
+// links the library has.)
+#[tactic(auto, using(std::proofs::lemmas::List::take_more_set, std::proofs::lemmas::List::take_more))]
+fn copy_words(from: &[u32], to: &mut [u32])
+    requires { length to.old ≡ length from.now }
+    ensures { to.new ≡ from.now }
+{
+    for i in 0..from.len() {
+        to[i] = from[i];
+    }
+}
+
+// The three words of each node. They are written by index: of what was written through `chunks_exact_mut` a proof knows the length alone, and
+// a copy of an array of them takes longer.
 #[tactic(auto, unfolding(model::specs::Packed::opened), using(crate::proofs::Opening::open_more))]
 fn open_nodes(nodes: &[u64], words: &mut [u32])
     requires { (length words.old ≡ 3 * length nodes.now) × (length nodes.now ≤ most_blocks) }
@@ -26,7 +39,9 @@ fn open_nodes(nodes: &[u64], words: &mut [u32])
             left,
             right,
         } = Parts::from(*node);
-        words[3 * i..3 * i + 3].copy_from_slice(&[position, left, right]);
+        words[3 * i] = position;
+        words[3 * i + 1] = left;
+        words[3 * i + 2] = right;
     }
 }
 
@@ -45,7 +60,7 @@ pub fn unpack(
     let tables = Tables::of(signatures, links, nodes)?;
     audit::sound(&tables)?;
     let (rows, words) = old.split_at_mut(links.len());
-    rows.copy_from_slice(links);
+    copy_words(links, rows);
     open_nodes(nodes, words);
     Ok(())
 }
@@ -75,7 +90,7 @@ pub fn pack(
     }
     let tables = Unpacked::of(signatures, old)?;
     audit::sound(&tables)?;
-    links.copy_from_slice(&old[..links.len()]);
+    copy_words(&old[..links.len()], links);
     close_nodes(&tables, nodes);
     Ok(())
 }

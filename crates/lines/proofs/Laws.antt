@@ -1,22 +1,39 @@
 -- Decimal digits, and bytes put one after the other.
 -- Assumes nothing.
-use Prim.Native.Nat.{ℕ, suc, ◌+◌, ◌/◌, ◌%◌, ◌^◌, ◌≤◌, ◌<◌}
+use Prim.Native.Nat.{ℕ, zero, suc, ◌+◌, ◌/◌, ◌%◌, ◌^◌, ◌≤◌, ◌<◌}
 use native.Mathlib.Omega.{arith}
 use mathlib.Core.Path.{◌≡◌, refl, sym, ◌∙◌, ap, subst}
+use mathlib.Core.Bool.{Bool, true, false}
 use mathlib.Core.List.{List, [], ◌∷◌, ◌++◌, append_assoc, append-nil}
+use lib.Dec.{ltb}
 use lib.ListN.{length, length-append, get_or, take}
 use lib.Seq.{sets, take-suc}
 use native.Mathlib.Numerals.{add-one}
-use borrow.Author.Tests.{lt-ltb, le-ltb}
-use Rattle.std.proofs.lemmas.Fmt.{AppendsLastDigit, decimal_from_appends, decimal_step, length-decimal-le, length-decimal-le_succ}
+use borrow.Author.Tests.{lt-ltb, le-ltb, ltb-false}
+use Rattle.std.proofs.lemmas.Fmt.{AppendsLastDigit, decimal_from_appends, length-decimal-le, length-decimal-le_succ}
 use Rattle.std.specs.Fmt as fmt
 use Rattle.model.proofs.Stores.{sets_append}
 use Rattle.lines.specs.Text.{decimal_within, decimal, spaced, line_text, Puts}
+
+-- more room for digits does not change them
+enough : (k j n : ℕ) → n < k → n < j → decimal_within k n ≡ decimal_within j n
+unfolding decimal_within
+enough zero j n a b = absurd (omega arith)
+enough (suc k) zero n a b = absurd (omega arith)
+enough (suc k) (suc j) n a b = go (ltb n 10) refl (enough k j (n / 10))
+  where
+    go : (t : Bool) → ltb n 10 ≡ t → (n / 10 < k → n / 10 < j → decimal_within k (n / 10) ≡ decimal_within j (n / 10)) → decimal_within (suc k) n ≡ decimal_within (suc j) n
+    go true e ih = rw (e, decimal_within)
+    go false e ih = rw (e, decimal_within) (ap (λ (l : List ℕ). l ++ ((48 + n % 10) ∷ [])) (ih (omega (arith, ltb-false n 10 e)) (omega (arith, ltb-false n 10 e))))
 
 -- one digit, and more
 pub decimal_one : (n : ℕ) → n < 10 → decimal n ≡ (48 + n) ∷ []
 unfolding decimal_within
 decimal_one n h = rw (lt-ltb n 10 h, decimal_within)
+
+pub decimal_more : (n : ℕ) → 10 ≤ n → decimal n ≡ decimal (n / 10) ++ ((48 + n % 10) ∷ [])
+unfolding decimal_within
+decimal_more n h = rw (le-ltb n 10 h, decimal_within) (ap (λ (l : List ℕ). l ++ ((48 + n % 10) ∷ [])) (enough n (suc (n / 10)) (n / 10) (omega arith) (omega arith)))
 
 -- these are the digits that std prints
 last_digit : AppendsLastDigit decimal_within
@@ -26,15 +43,12 @@ last_digit = record { one = λ k n h. rw (lt-ltb n 10 h, decimal_within); more =
 decimal_std : (n : ℕ) → n < 2 ^ 32 → decimal n ≡ fmt.decimal n
 decimal_std n h = decimal_from_appends decimal_within last_digit (suc n) n (omega arith) (omega (arith, length-decimal-le_succ n (omega arith)))
 
-pub decimal_more : (n : ℕ) → 10 ≤ n → n < 2 ^ 32 → decimal n ≡ decimal (n / 10) ++ ((48 + n % 10) ∷ [])
-decimal_more n l h = decimal_std n h ∙ decimal_step n l (omega arith) ∙ ap (λ (k : List ℕ). k ++ ((48 + n % 10) ∷ [])) (sym (decimal_std (n / 10) (omega arith)))
-
 -- how many digits there are: at most ten of a number of 32 bits, and three of a byte
 pub len_one : (n : ℕ) → n < 10 → length (decimal n) ≡ 1
 len_one n h = ap length (decimal_one n h)
 
-pub len_more : (n : ℕ) → 10 ≤ n → n < 2 ^ 32 → length (decimal n) ≡ length (decimal (n / 10)) + 1
-len_more n l h = ap length (decimal_more n l h) ∙ length-append (decimal (n / 10)) ((48 + n % 10) ∷ [])
+pub len_more : (n : ℕ) → 10 ≤ n → length (decimal n) ≡ length (decimal (n / 10)) + 1
+len_more n h = ap length (decimal_more n h) ∙ length-append (decimal (n / 10)) ((48 + n % 10) ∷ [])
 
 pub decimal_few : (n : ℕ) → n < 2 ^ 32 → length (decimal n) ≤ 10
 decimal_few n h = omega (arith, ap length (decimal_std n h), length-decimal-le 10 n (omega arith) (omega arith) (omega arith))

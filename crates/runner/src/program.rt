@@ -3,7 +3,7 @@ ghost use Rattle.std.specs.Prelude.{◌≡◌};
 ghost use Rattle.runner.specs.Served.{Took};
 ghost use Rattle.runner.specs.Indexed.{memory_of, zeros};
 
-use crate::serve_all;
+use crate::{holds_index, serve};
 use sigtree::Work;
 use std::io::{Read, Write};
 use tables::TablesMut;
@@ -34,7 +34,7 @@ impl Index {
         }
     }
 
-    // Serves the reader's slips on the index, and prints a line for each.
+    // Serves the reader's slips on the index, and prints a line for each. That `serve` serves none is shut out first.
     fn serve<R: Read, W: Write>(&mut self, reader: &mut R, writer: &mut W)
         ensures { Took (R.remaining reader.old) (R.remaining reader.new) (memory_of self.old) (memory_of self.new) }
     {
@@ -50,7 +50,11 @@ impl Index {
             marks: &mut self.marks,
             output: &mut self.output,
         };
-        serve_all(
+        let held = holds_index(&tables);
+        prove!(held);
+        let room = text.len() >= 48 + 11 * work.output.len();
+        prove!(room);
+        serve(
             reader,
             writer,
             &mut tables,

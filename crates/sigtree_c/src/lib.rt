@@ -1,18 +1,10 @@
-// The public face as C and Rust link it, in libsigtree.a: plain numbers and slices. Each function hands on to the crate of its call, whose
-// promise it repeats in document 01's numbers; no function here asks anything of its caller. (C has no Result, and lends each slice by
-// itself, some to be read only.)
+// The public face as C and Rust link it, in libsigtree.a: each function of `sigtree` under its own name, with the same promise.
 #![tactic(auto)]
 
 ghost use Rattle.model.specs.PackedPromises.{PackedClear, PackedFile, PackedWithdraw, PackedRebuild, PackedSearch, PackedAudit, PackPromise, UnpackPromise};
 ghost use Rattle.model.specs.PackedLists.{PackedSlip};
-ghost use Rattle.std.specs.Prelude.{◌≡◌};
-ghost use Rattle.answers.specs.Answers.{report_of};
 ghost use Rattle.sigtree.specs.Face.{lent, reported};
 ghost use Rattle.model.specs.Words.{SignPromise, PlacePromise};
-
-use answers::{Counts, Refusal, Report, answer};
-use sigtree::Work;
-use tables::TablesMut;
 
 // Empties the index and sets its width.
 #[unsafe(no_mangle)]
@@ -24,12 +16,7 @@ pub extern "C" fn sigtree_clear(
 ) -> u32
     ensures { PackedClear signatures.old links.old nodes.old width result signatures.new links.new nodes.new }
 {
-    let mut tables = TablesMut {
-        signatures,
-        links,
-        nodes,
-    };
-    answer(&clear::clear(&mut tables, width))
+    sigtree::sigtree_clear(signatures, links, nodes, width)
 }
 
 // Files a block with its signature.
@@ -43,12 +30,7 @@ pub extern "C" fn sigtree_file(
 ) -> u32
     ensures { PackedFile signatures.old links.old nodes.old block signature.now result signatures.new links.new nodes.new }
 {
-    let mut tables = TablesMut {
-        signatures,
-        links,
-        nodes,
-    };
-    answer(&file::file(&mut tables, block, signature))
+    sigtree::sigtree_file(signatures, links, nodes, block, signature)
 }
 
 // Takes a block out.
@@ -61,12 +43,7 @@ pub extern "C" fn sigtree_withdraw(
 ) -> u32
     ensures { PackedWithdraw signatures.old links.old nodes.old block result signatures.new links.new nodes.new }
 {
-    let mut tables = TablesMut {
-        signatures,
-        links,
-        nodes,
-    };
-    answer(&withdraw::withdraw(&mut tables, block))
+    sigtree::sigtree_withdraw(signatures, links, nodes, block)
 }
 
 // Makes the tree anew.
@@ -79,23 +56,7 @@ pub extern "C" fn sigtree_rebuild(
 ) -> u32
     ensures { PackedRebuild signatures.now links.old nodes.old scratch.old result links.new nodes.new scratch.new }
 {
-    answer(&rebuild::rebuild(signatures, links, nodes, scratch))
-}
-
-// Tells the counts and gives the answer.
-fn tell(
-    outcome: Result<Counts, Refusal>,
-    found: &mut u32,
-    compares: &mut u32,
-    bits: &mut u32,
-) -> u32
-    ensures { reported result found.new compares.new bits.new ≡ report_of outcome }
-{
-    let Report { answer, counts } = Report::from(outcome);
-    *found = counts.found;
-    *compares = counts.compares;
-    *bits = counts.bits;
-    answer
+    sigtree::sigtree_rebuild(signatures, links, nodes, scratch)
 }
 
 // Lists the filed blocks whose signature covers the query.
@@ -113,8 +74,9 @@ pub extern "C" fn sigtree_search(
 ) -> u32
     ensures { PackedSearch signatures.now links.now nodes.now query.now marks.old output.old (reported result found.new compares.new bits.new) marks.new output.new }
 {
-    let outcome = search::search(signatures, links, nodes, query, marks, output);
-    tell(outcome, found, compares, bits)
+    sigtree::sigtree_search(
+        signatures, links, nodes, query, marks, output, found, compares, bits,
+    )
 }
 
 // Are the tables sound?
@@ -122,7 +84,7 @@ pub extern "C" fn sigtree_search(
 pub extern "C" fn sigtree_audit(signatures: &[u64], links: &[u32], nodes: &[u64]) -> u32
     ensures { PackedAudit signatures.now links.now nodes.now result }
 {
-    answer(&audit::audit(signatures, links, nodes))
+    sigtree::sigtree_audit(signatures, links, nodes)
 }
 
 // From tables of 5B + 2 links to packed ones.
@@ -135,7 +97,7 @@ pub extern "C" fn sigtree_pack(
 ) -> u32
     ensures { PackPromise signatures.now old.now links.old nodes.old result links.new nodes.new }
 {
-    answer(&convert::pack(signatures, old, links, nodes))
+    sigtree::sigtree_pack(signatures, old, links, nodes)
 }
 
 // And back.
@@ -148,7 +110,7 @@ pub extern "C" fn sigtree_unpack(
 ) -> u32
     ensures { UnpackPromise signatures.now links.now nodes.now old.old result old.new }
 {
-    answer(&convert::unpack(signatures, links, nodes, old))
+    sigtree::sigtree_unpack(signatures, links, nodes, old)
 }
 
 // Carries out a slip: any bytes of any length.
@@ -167,21 +129,8 @@ pub extern "C" fn sigtree_slip(
 ) -> u32
     ensures { PackedSlip slip.now (lent signatures.old links.old nodes.old scratch.old marks.old output.old) (reported result found.new compares.new bits.new) (lent signatures.new links.new nodes.new scratch.new marks.new output.new) }
 {
-    let mut tables = TablesMut {
-        signatures,
-        links,
-        nodes,
-    };
-    let mut work = Work {
-        scratch,
-        marks,
-        output,
-    };
-    tell(
-        sigtree::carry_out(slip, &mut tables, &mut work),
-        found,
-        compares,
-        bits,
+    sigtree::sigtree_slip(
+        slip, signatures, links, nodes, scratch, marks, output, found, compares, bits,
     )
 }
 
@@ -190,7 +139,7 @@ pub extern "C" fn sigtree_slip(
 pub extern "C" fn sigtree_sign(text: &[u8], width: u32, k: u32, signature: &mut [u64]) -> u32
     ensures { SignPromise width k text.now signature.old result signature.new }
 {
-    answer(&words::sign(text, width, k, signature))
+    sigtree::sigtree_sign(text, width, k, signature)
 }
 
 // Where word n of a text stands. It stands in for the splitter, whose returned part C cannot have.
@@ -198,10 +147,5 @@ pub extern "C" fn sigtree_sign(text: &[u8], width: u32, k: u32, signature: &mut 
 pub extern "C" fn sigtree_word(text: &[u8], n: u32, start: &mut usize, size: &mut usize) -> u32
     ensures { PlacePromise text.now n result start.new size.new }
 {
-    let outcome = words::word_place(text, n);
-    let told = answer(&outcome);
-    let place = outcome.unwrap_or(text.len()..text.len());
-    *start = place.start;
-    *size = place.len();
-    told
+    sigtree::sigtree_word(text, n, start, size)
 }

@@ -28,9 +28,10 @@ struct Signed<S: Signatures> {
 }
 
 // Where a group was split: at which position, and how many blocks have bit 0 there.
-struct Cut {
-    position: u32,
-    low: usize,
+#[derive(Clone, Copy, Debug, PartialEq, Eq)]
+pub struct Cut {
+    pub position: u32,
+    pub low: usize,
 }
 
 impl<S: Signatures> Signed<S> {

@@ -35,8 +35,8 @@ pub fn free_rest(nodes: &mut [u64], blocks: usize, first: usize)
     ensures { (links : List ℕ) → Packs blocks links nodes.old → unpacked links nodes.new ≡ sets (unpacked links nodes.old) (position_at blocks first) (free_nodes (blocks - first) first) }
 {
     let last = blocks - 1;
-    for node in first..last {
-        set_node(nodes, node, leads_to(node as u32 + 1));
+    for next in first as u32 + 1..blocks as u32 {
+        set_node(nodes, next as usize - 1, leads_to(next));
     }
     if first <= last {
         set_node(nodes, last, leads_to(0));

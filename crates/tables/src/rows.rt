@@ -2,7 +2,8 @@
 // blocks' signatures, W words for each. The row of a block is the next block on its chain and its filed word; the functions below are the
 // one place that knows where they stand. They are for bare slices, and ask for the length alone. (A block is a number with its range in a
 // clause: the range is that of the tables, so a type for it would have to hold them, and could not be had while they are stored to.)
-ghost use Rattle.std.specs.Prelude.{◌≡◌, ◌*◌, ◌≤◌, ◌<◌, ℕ, length, set, replicate};
+ghost use Rattle.std.specs.Prelude.{◌≡◌, ◌*◌, ◌≤◌, ◌<◌, ℕ, length, set, replicate, ◌+◌, List};
+ghost use Rattle.std.proofs.Math.Seq.{paste};
 ghost use Rattle.model.specs.Wide.{number_in, signatures_in, set_words};
 ghost use Rattle.model.specs.Tables.{next_at, filed_at, next_of, filed_of, signature_of};
 ghost use Rattle.tables.specs.Fits.{LentFit};
@@ -53,15 +54,27 @@ pub fn signature_of(signatures: &[u64], words: usize, block: usize) -> &[u64]
     &signatures[from..from + words]
 }
 
-// Sets the block's words. The first stands before the loop: one word is not worth a call that copies.
+// Copies the words behind the first to where they stand in a slice of signatures. (Not inlined: where the compiler knows that the words come from
+// elsewhere, it makes of the loop a call of C's `memcpy`, which not everyone who links the library has.)
+#[inline(never)]
+fn set_rest(signatures: &mut [u64], from: usize, signature: &[u64])
+    requires { (from + length signature.now ≤ length signatures.old) × (1 ≤ length signature.now) }
+    ensures { (words : List ℕ) → signatures.old ≡ paste words from signature.now 1 → length words ≡ length signatures.old → signatures.new ≡ paste words from signature.now (length signature.now) }
+{
+    for i in 1..signature.len() {
+        signatures[from + i] = signature[i];
+    }
+}
+
+// Sets the block's words. The first stands by itself: one word is not worth a call that copies.
 pub fn set_signature(signatures: &mut [u64], block: usize, signature: &[u64])
     requires { (1 ≤ block) × (block * length signature.now ≤ length signatures.old) × (1 ≤ length signature.now) }
     ensures { signatures.new ≡ set_words (length signature.now) signatures.old block signature.now }
 {
     let from = (block - 1) * signature.len();
     signatures[from] = signature[0];
-    for i in 1..signature.len() {
-        signatures[from + i] = signature[i];
+    if 1 < signature.len() {
+        set_rest(signatures, from, signature);
     }
 }
 

@@ -6,8 +6,9 @@ use mathlib.Core.Bool.{Bool, true, false, cond, not}
 use mathlib.Core.List.{List, [], ◌∷◌, ◌++◌, append-nil, append_assoc}
 use Prim.Native.Nat.{ℕ, zero, suc, ◌+◌, ◌-◌, ◌≤◌, ◌<◌}
 use native.Mathlib.Omega.{arith}
+use native.Mathlib.Numerals.{add-one}
 use lib.ListN.{length, get_or, take, drop, length-take, drop_of_length-le}
-use lib.Seq.{take-nil, drop-drop}
+use lib.Seq.{take-nil, drop-drop, drop-cons}
 use lib.Bits.{bit_or, or_zero_r}
 use Rattle.std.specs.List.{position_or_len, after_first}
 use Rattle.model.specs.Words.{Part, separator, ended, scan, parts_of, bytes_over, words_of, triplet_position, triplets_from, triplets, different, positions_of, set_all, word_signature, or_over, text_signature}
@@ -57,6 +58,34 @@ pub record TextSigns (F K : ℕ) (text : List ℕ) (signed start : ℕ) : Type 0
 pub text_begins : (F K : ℕ) (text : List ℕ) → TextSigns F K text 0 0
 unfolding text_signature words_of parts_of
 text_begins F K text = record { whole = refl }
+
+-- a separator at `start` begins no word
+scan_passes : (text : List ℕ) (start : ℕ) → start < length text → separator (get_or text start 0) ≡ true
+    → scan start 0 (drop start text) ≡ scan (start + 1) 0 (drop (start + 1) text)
+unfolding scan ended
+scan_passes text start below g =
+    let ahead : drop start text ≡ get_or text start 0 ∷ drop (suc start) text = drop-cons text start 0 below in
+    let next : suc (start + 0) ≡ start + 1 = omega arith in
+    simp (ahead, g, next, add-one)
+
+pub text_passes : (F K : ℕ) (text : List ℕ) (signed start : ℕ) → start < length text → separator (get_or text start 0) ≡ true → TextSigns F K text signed start
+    → TextSigns F K text signed (start + 1)
+text_passes F K text signed start below g s =
+    record { whole = ap (λ (ps : List Part). bit_or signed (or_over F K (bytes_over text ps))) (sym (scan_passes text start below g)) ∙ s.whole }
+
+-- a run that has begun ends where it would have been found to end from its first byte on
+pub run_begun : (text : List ℕ) (start end : ℕ) → start < length text → separator (get_or text start 0) ≡ false
+    → end ≡ start + 1 + position_or_len separator (drop (start + 1) text) → end ≡ start + position_or_len separator (drop start text)
+run_begun text start end below g e =
+    let ahead : drop start text ≡ get_or text start 0 ∷ drop (suc start) text = drop-cons text start 0 below in
+    let on : suc start ≡ start + 1 = omega arith in
+    let next : drop (suc start) text ≡ drop (start + 1) text = ap (λ (n : ℕ). drop n text) on in
+    let one : position_or_len separator (drop start text) ≡ 1 + position_or_len separator (drop (start + 1) text) =
+    ap (position_or_len separator) ahead
+    ∙ ap (λ (y : Bool). cond (not y) (1 + position_or_len separator (drop (suc start) text)) 0) g
+    ∙ ap (λ (l : List ℕ). 1 + position_or_len separator l) next
+    in
+    omega (arith, e, one)
 
 -- the run from `start` on is a word or empty
 pub text_next : (F K : ℕ) (text : List ℕ) (signed start end : ℕ) → end ≡ start + position_or_len separator (drop start text) → TextSigns F K text signed start

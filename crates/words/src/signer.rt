@@ -7,8 +7,21 @@ ghost use Rattle.model.specs.Words.{most_positions, triplet_position, word_signa
 ghost use Rattle.words.specs.Pass.{Sets};
 
 use crate::draft::{Draft, ManyWords, OneWord};
-use crate::splitter::end_of_run;
+use crate::splitter::{end_of_run, is_separator};
 use signature::{MOST_WORDS, Position};
+
+// Copies the words. (By index, and not inlined: else the compiler makes of it a call of C's `memcpy`, which not everyone who links the library
+// has.)
+#[inline(never)]
+#[tactic(auto, using(std::proofs::lemmas::List::take_more_set, std::proofs::lemmas::List::take_more))]
+fn copy_words(from: &[u64], to: &mut [u64])
+    requires { length to.old ≡ length from.now }
+    ensures { to.new ≡ from.now }
+{
+    for i in 0..from.len() {
+        to[i] = from[i];
+    }
+}
 
 // How texts are signed: the width of a signature, and k, the number of different positions that a word sets at most.
 #[derive(Clone, Copy)]
@@ -62,17 +75,21 @@ impl Signer {
         }
     }
 
-    // Signs a text, in a draft in which nothing is set: the OR over its words. Between two separators stands a word or nothing, which sets
-    // no position. A loop over `split` would not be covered by the check: the function has a type parameter.
+    // Signs a text, in a draft in which nothing is set: the OR over its words. A byte that is no separator begins one, which ends before the
+    // next separator. A loop over `split` would not be covered by the check: the function has a type parameter.
     fn sign_text<D: Draft>(self, text: &[u8], draft: &mut D)
         requires { (self.width ≤ D.places) × (D.signed draft.old ≡ 0) }
         ensures { D.signed draft.new ≡ text_signature self.width self.k text.now }
     {
         let mut start = 0;
         while start < text.len() {
-            let end = end_of_run(text, start);
-            self.sign_word(&text[start..end], draft);
-            start = end + 1;
+            if is_separator(&text[start]) {
+                start += 1;
+            } else {
+                let end = end_of_run(text, start + 1);
+                self.sign_word(&text[start..end], draft);
+                start = end + 1;
+            }
         }
     }
 
@@ -88,7 +105,7 @@ impl Signer {
         } else {
             let mut draft = ManyWords::none();
             self.sign_text(text, &mut draft);
-            signature.copy_from_slice(&draft.words[MOST_WORDS - signature.len()..]);
+            copy_words(&draft.words[MOST_WORDS - signature.len()..], signature);
         }
     }
 }

@@ -24,12 +24,15 @@ pub fn end_of_run(text: &[u8], start: usize) -> usize
 }
 
 // The place of word n, counted from 1; the empty place at the text's end where there is none. It goes over the bytes, since the parts
-// that `split` gives do not say where they stand, and adding up their sizes takes twice as long.
+// that `split` gives do not say where they stand, and adding up their sizes takes twice as long. That there is no word 0 is known before.
 pub fn locate(text: &[u8], n: u32) -> Range<usize>
     requires { length text.now ≤ 4096 }
     ensures word { part_of result.start result.end ≡ word_at text.now n }
     ensures inside { (result.start ≤ result.end) × (result.end ≤ length text.now) }
 {
+    if n == 0 {
+        return text.len()..text.len();
+    }
     let mut seen = 0;
     let mut start = 0;
     for (i, byte) in text.iter().enumerate() {

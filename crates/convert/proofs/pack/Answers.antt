@@ -28,4 +28,4 @@ pub returns : goal.returns
 returns c =
     let t = c.in_ok-tables in
     let e = sym c.pack_fits.ensures ∙ c.if-not-pack_fits.false in
-    packs_all _ _ _ _ e 0 (answered_unpacked t.ensures.read c.in_ok-sound.ensures) refl _ _ c.copy_from_slice.ensures.after (packed_is _ _ _ _ t.tables.fits.fits.links_long t.ensures.read.1 c.close_nodes.ensures)
+    packs_all _ _ _ _ e 0 (answered_unpacked t.ensures.read c.in_ok-sound.ensures) refl _ _ c.copy_words.ensures (packed_is _ _ _ _ t.tables.fits.fits.links_long t.ensures.read.1 c.close_nodes.ensures)

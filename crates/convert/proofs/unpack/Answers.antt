@@ -15,4 +15,4 @@ pub returns : goal.returns
 returns c =
     let t = c.in_ok-tables in
     let e = sym c.unpack_fits.ensures ∙ c.if-not-unpack_fits.false in
-    unpacks _ _ _ _ e 0 (answered_packed t.ensures.read t.ensures.asked c.in_ok-sound.ensures) refl _ _ c.copy_from_slice.ensures.after c.open_nodes.ensures
+    unpacks _ _ _ _ e 0 (answered_packed t.ensures.read t.ensures.asked c.in_ok-sound.ensures) refl _ _ c.copy_words.ensures c.open_nodes.ensures

@@ -9,4 +9,4 @@ returns-then-n-lt10 t c = puts_as _ _ _ _ _ _ (sym (decimal_one _ c.if-n-lt10.tr
 
 pub returns : goal.returns
 returns t c =
-    puts_as _ _ _ _ _ _ (sym (decimal_more _ c.if-n-lt10.false c.ranges.n.fits)) (puts_then _ _ _ _ _ _ _ _ c.digits-next.ensures c.push-2.ensures)
+    puts_as _ _ _ _ _ _ (sym (decimal_more _ c.if-n-lt10.false)) (puts_then _ _ _ _ _ _ _ _ c.digits-next.ensures c.push-2.ensures)

@@ -10,7 +10,7 @@ use Rattle.model.specs.Clear.{free_nodes}
 use Rattle.model.specs.Packed.{unpacked, Packs}
 use Rattle.tables.proofs.free.free_rest.Given as goal
 
-abbrev pub invariant-loop-node : goal.invariant-loop-node
-invariant-loop-node l =
-    (l.node ≤ l.blocks) × (length l.nodes ≡ length l.initial.nodes)
-    × ((links : List ℕ) → Packs l.blocks links l.initial.nodes → sets (unpacked links l.nodes) (position_at l.blocks l.node) (free_nodes (l.blocks - l.node) l.node) ≡ sets (unpacked links l.initial.nodes) (position_at l.blocks l.first) (free_nodes (l.blocks - l.first) l.first))
+abbrev pub invariant-loop-next : goal.invariant-loop-next
+invariant-loop-next l =
+    (l.next - 1 ≤ l.blocks) × (length l.nodes ≡ length l.initial.nodes)
+    × ((links : List ℕ) → Packs l.blocks links l.initial.nodes → sets (unpacked links l.nodes) (position_at l.blocks (l.next - 1)) (free_nodes (l.blocks - (l.next - 1)) (l.next - 1)) ≡ sets (unpacked links l.initial.nodes) (position_at l.blocks l.first) (free_nodes (l.blocks - l.first) l.first))

@@ -2,15 +2,19 @@
 -- Assumes nothing.
 use Prim.Native.Nat.{◌+◌, ◌-◌}
 use mathlib.Core.Path.{◌≡◌, ◌∙◌, sym, ap}
-use mathlib.Core.Logic.{◌≢◌}
+use mathlib.Core.Logic.{◌≢◌, inl}
 use native.Mathlib.Nat.{le_antisymm}
 use native.Mathlib.Omega.{arith}
 use Rattle.model.specs.Words.{end_of}
 use Rattle.words.specs.Parts.{part_of}
 use Rattle.words.proofs.Splitting.{rest, begins, goes_on, between, passed, is_found, ends_between, ends_short, ends_found}
 use Rattle.words.proofs.Asked.{empty_part}
+use Rattle.words.proofs.Numbered.{no_word}
 use Rattle.words.proofs.splitter.locate.Goals as goal
 use Rattle.words.proofs.splitter.locate.Goals.{then-is_separator, then-start-i+else-seen-n, else-start-i, else-is_separator, else-start-end-via-then-start-end+else-seen-n-2, else-start-end-via-else-start-end}
+
+pub returns-then-n-eq0-clause-word : goal.returns-then-n-eq0-clause-word
+returns-then-n-eq0-clause-word c = empty_part c.args.text.now ∙ sym (no_word c.args.text.now c.args.n (inl c.if-n-eq0.true))
 
 pub loop-i-init : goal.loop-i-init
 loop-i-init c =

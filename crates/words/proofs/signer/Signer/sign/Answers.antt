@@ -32,4 +32,4 @@ returns-else-signature-eq1 c =
     let room : c.args.self.width ≤ word_bits * (length words - (8 - length c.args.signature.now)) = omega arith in
     let below : number_in words < 2 ^ c.args.self.width = subst (λ (n : ℕ). n < 2 ^ c.args.self.width) (sym signed) (signature_below _ _ _ some) in
     let part : length (drop (8 - length c.args.signature.now) words) ≤ length words - (8 - length c.args.signature.now) = omega (arith, length-drop (8 - length c.args.signature.now) words) in
-    ap number_in (c.copy_from_slice.ensures.after ∙ take_all _ _ part) ∙ front_zero (8 - length c.args.signature.now) words (omega arith) (lt_of_lt_of_le below (pow_mono room)) ∙ signed
+    ap number_in (c.copy_words.ensures ∙ take_all _ _ part) ∙ front_zero (8 - length c.args.signature.now) words (omega arith) (lt_of_lt_of_le below (pow_mono room)) ∙ signed
